@@ -1,13 +1,13 @@
 //! The words of `decode`.
-use crate::parts::{described, files, flag, list, of_numbers, valued};
-use crate::refused::Refused;
-use clap::{Arg, ArgAction, ArgMatches, Command, value_parser};
-use pgn_ids::Address;
+use crate::numbers::{ADDRESS_MOST, PGN_MOST, hexadecimal};
+use crate::parts::{Form, Row, described};
+use crate::refused::{Refused, refuse};
+use clap::{ArgMatches, Command};
 use std::alloc::{AllocError, Global};
 use tp_wire::constants::ETP_MAX_SIZE;
 
 /// What of a log is asked for.
-#[derive(Debug, PartialEq, Eq, Drop)]
+#[derive(Debug, Drop)]
 pub struct OfLog {
     /// Messages of these PGNs; of each PGN if none is named. The addresses likewise.
     pub pgns: Vec<u32>,
@@ -32,12 +32,6 @@ pub struct OfLog {
     /// Whether neither messages nor frames are printed.
     pub quiet: bool,
 }
-
-/// The highest number of 18 bits.
-pub(crate) const PGN_MOST: u32 = 0x3_FFFF;
-
-/// The highest address, which as a destination is all.
-pub(crate) const ADDRESS_MOST: u32 = Address::GLOBAL.0 as u32;
 
 const DECODE_HELP: &str =
     "A log has the lines that candump writes, (SECONDS.MICROS) IFACE ID#HEX, or those
@@ -81,92 +75,81 @@ Status:
 
 docs/LOGS.md describes what is read and printed.";
 
-fn numbers_arg<'a>(alloc: Global, name: &'a str, value: &'a str, help: &'a str) -> Arg<'a> {
-    valued(alloc, name, value, ArgAction::Append, help)
-}
-
-fn most_arg<'a>(alloc: Global) -> Arg<'a> {
-    let most = valued(
-        alloc,
-        "max-bytes",
-        "N",
-        ArgAction::Set,
-        "Longest message that is reassembled, in bytes [default: 117440505]",
-    );
-    of_numbers(most, value_parser!(u32).range(1..=i64::from(ETP_MAX_SIZE)))
-}
-
-fn all_arg<'a>(alloc: Global) -> Arg<'a> {
-    flag(
-        alloc,
-        "all",
-        "Also prints frames that belong to no message, as frame FROM TO PGN LENGTH HEX",
-    )
-}
-
-fn json_arg<'a>(alloc: Global) -> Arg<'a> {
-    flag(alloc, "json", "Prints each line as a JSON object")
-}
-
-fn frames_arg<'a>(alloc: Global) -> Arg<'a> {
-    flag(
-        alloc,
-        "frames",
-        "Lists the announcement, windows and end of each message, with time and number",
-    )
-}
-
-fn explain_arg<'a>(alloc: Global) -> Arg<'a> {
-    flag(
-        alloc,
-        "explain",
-        "Also shows fault lists and identifications in words, single frames included",
-    )
-}
-
-fn summary_arg<'a>(alloc: Global) -> Arg<'a> {
-    flag(
-        alloc,
-        "summary",
-        "Ends with a table of the messages: a row for each interface, PGN, sender and destination",
-    )
-}
-
-fn quiet_arg<'a>(alloc: Global) -> Arg<'a> {
-    flag(alloc, "quiet", "Prints neither messages nor frames")
-}
-
-fn strict_arg<'a>(alloc: Global) -> Arg<'a> {
-    flag(alloc, "strict", "Ends at the first wrong line")
-}
-
-/// The arguments of `decode`, in the order of the help.
-fn decode_args<'a>(alloc: Global) -> Result<Vec<Arg<'a>>, AllocError> {
-    let pgn = "Only messages of this PGN, hexadecimal";
-    let from = "Only messages from this address, hexadecimal";
-    let to = "Only messages to this address, FF for those to all";
-    list(
-        alloc,
-        [
-            numbers_arg(alloc, "pgn", "PGN", pgn),
-            numbers_arg(alloc, "from", "A", from),
-            numbers_arg(alloc, "to", "A", to),
-            most_arg(alloc),
-            all_arg(alloc),
-            strict_arg(alloc),
-            json_arg(alloc),
-            frames_arg(alloc),
-            explain_arg(alloc),
-            summary_arg(alloc),
-            quiet_arg(alloc),
-            files(
-                alloc,
-                "Logs in the order of their times, - for standard input [default: -]",
-            )
-            .action(ArgAction::Append),
-        ],
-    )
-}
+/// The arguments, in the order of the help.
+const ROWS: [Row<'static>; 12] = [
+    Row {
+        form: Form::Values,
+        name: "pgn",
+        value: "PGN",
+        help: "Only messages of this PGN, hexadecimal",
+    },
+    Row {
+        form: Form::Values,
+        name: "from",
+        value: "A",
+        help: "Only messages from this address, hexadecimal",
+    },
+    Row {
+        form: Form::Values,
+        name: "to",
+        value: "A",
+        help: "Only messages to this address, FF for those to all",
+    },
+    Row {
+        form: Form::Size(ETP_MAX_SIZE as i64),
+        name: "max-bytes",
+        value: "N",
+        help: "Longest message that is reassembled, in bytes [default: 117440505]",
+    },
+    Row {
+        form: Form::Flag,
+        name: "all",
+        value: "",
+        help: "Also prints frames that belong to no message, as frame FROM TO PGN LENGTH HEX",
+    },
+    Row {
+        form: Form::Flag,
+        name: "strict",
+        value: "",
+        help: "Ends at the first wrong line",
+    },
+    Row {
+        form: Form::Flag,
+        name: "json",
+        value: "",
+        help: "Prints each line as a JSON object",
+    },
+    Row {
+        form: Form::Flag,
+        name: "frames",
+        value: "",
+        help: "Lists the announcement, windows and end of each message, with time and number",
+    },
+    Row {
+        form: Form::Flag,
+        name: "explain",
+        value: "",
+        help: "Also shows fault lists and identifications in words, single frames included",
+    },
+    Row {
+        form: Form::Flag,
+        name: "summary",
+        value: "",
+        help: "Ends with a table of the messages: a row for each interface, PGN, sender and destination",
+    },
+    Row {
+        form: Form::Flag,
+        name: "quiet",
+        value: "",
+        help: "Prints neither messages nor frames",
+    },
+    Row {
+        form: Form::Several,
+        name: "files",
+        value: "FILE",
+        help: "Logs in the order of their times, - for standard input [default: -]",
+    },
+];
 
 /// The command as it is parsed, with its help.
 pub(crate) fn decode_command<'a>(alloc: Global) -> Result<Command<'a>, AllocError> {
@@ -175,27 +158,26 @@ pub(crate) fn decode_command<'a>(alloc: Global) -> Result<Command<'a>, AllocErro
         "decode",
         "Prints the messages of logs, reassembled from their packets",
         DECODE_HELP,
-        decode_args(alloc),
+        &ROWS,
     )
 }
 
-/// The number that hexadecimal digits write, if it is at most `most`.
-pub(crate) fn hexadecimal(word: &str, most: u32) -> Option<u32> {
-    if !word.as_bytes().first()?.is_ascii_hexdigit() {
-        return None;
+/// Puts the number that a word writes; if it writes none up to `most`, the word is refused.
+fn put_number(
+    alloc: Global,
+    numbers: &mut Vec<u32>,
+    option: &str,
+    word: &str,
+    most: u32,
+) -> Result<(), Refused> {
+    match hexadecimal(word.as_bytes(), most) {
+        Some(number) => numbers.push(number)?,
+        None if most == PGN_MOST => {
+            return Err(refuse(alloc, option, word, "not a hexadecimal number up to 3FFFF"));
+        }
+        None => return Err(refuse(alloc, option, word, "not a hexadecimal number up to FF")),
     }
-    let number = u32::from_str_radix(word, 16).ok()?;
-    if number <= most { Some(number) } else { None }
-}
-
-/// The number that a word of an argument writes; if it writes none, the word is refused.
-fn number(alloc: Global, name: &str, word: &str, most: u32) -> Result<u32, Refused> {
-    match hexadecimal(word, most) {
-        Some(number) => Ok(number),
-        None => Err(Refused::Word(format!(in alloc;
-            "invalid value '{word}' for '--{name}': not a hexadecimal number up to {most:X}"
-        )?)),
-    }
+    Ok(())
 }
 
 /// The numbers that an argument names.
@@ -203,11 +185,12 @@ fn numbers(
     alloc: Global,
     matches: &ArgMatches,
     name: &str,
+    option: &str,
     most: u32,
 ) -> Result<Vec<u32>, Refused> {
     let mut numbers = Vec::new(alloc);
     for word in matches.get_strs(name).unwrap_or(&[]) {
-        numbers.push(number(alloc, name, *word, most)?)?;
+        put_number(alloc, &mut numbers, option, *word, most)?;
     }
     Ok(numbers)
 }
@@ -215,9 +198,9 @@ fn numbers(
 /// What its words ask for.
 pub(crate) fn read_decode(alloc: Global, matches: &ArgMatches) -> Result<OfLog, Refused> {
     Ok(OfLog {
-        pgns: numbers(alloc, matches, "pgn", PGN_MOST)?,
-        from: numbers(alloc, matches, "from", ADDRESS_MOST)?,
-        to: numbers(alloc, matches, "to", ADDRESS_MOST)?,
+        pgns: numbers(alloc, matches, "pgn", "--pgn", PGN_MOST)?,
+        from: numbers(alloc, matches, "from", "--from", u32::from(ADDRESS_MOST))?,
+        to: numbers(alloc, matches, "to", "--to", u32::from(ADDRESS_MOST))?,
         most: matches.get_one::<u32>("max-bytes").unwrap_or(ETP_MAX_SIZE),
         singles: matches.get_flag("all"),
         strict: matches.get_flag("strict"),

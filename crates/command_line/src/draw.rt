@@ -1,14 +1,13 @@
 //! The words of `draw`.
-use crate::decode::{ADDRESS_MOST, hexadecimal};
 use crate::node::{first_of, interface};
-use crate::parts::{described, files, flag, list, valued};
-use crate::refused::Refused;
-use clap::{Arg, ArgAction, ArgMatches, Command};
-use log_fields::{MICROS, SECOND};
+use crate::numbers::{pair, time};
+use crate::parts::{Form, Row, described};
+use crate::refused::{Refused, refuse};
+use clap::{ArgMatches, Command};
 use std::alloc::{AllocError, Global};
 
 /// What of a log is drawn.
-#[derive(Debug, PartialEq, Eq, Drop)]
+#[derive(Debug, Drop)]
 pub struct OfDrawing {
     /// The two addresses between which frames are drawn, and of those to all from either; none: of each node.
     pub pair: Option<(u8, u8)>,
@@ -48,43 +47,57 @@ Status:
 
 docs/SCRIPTS.md describes the language, docs/LOGS.md the drawing of a log.";
 
-/// An option with a value that says which frames of a log are drawn.
-fn log_arg<'a>(
-    alloc: Global,
-    name: &'a str,
-    value: &'a str,
-    help: &'a str,
-) -> Result<Arg<'a>, AllocError> {
-    valued(alloc, name, value, ArgAction::Set, help).requires_arg("log")
-}
-
-/// A flag without a value.
-fn log_flag<'a>(alloc: Global, name: &'a str, help: &'a str) -> Result<Arg<'a>, AllocError> {
-    flag(alloc, name, help).requires_arg("log")
-}
-
-/// The arguments of `draw`, in the order of the help.
-fn draw_args<'a>(alloc: Global) -> Result<Vec<Arg<'a>>, AllocError> {
-    let pair = "Only frames between these nodes, and from either to all, hexadecimal";
-    let from = "No frame before this time";
-    let to = "No frame after this time";
-    let interface = "Interface whose frames are drawn [default: that of the first frame]";
-    let all = "Also draws frames that belong to no message";
-    let read = "Script, or logs in the order of their times, - for standard input [default: -]";
-    list(
-        alloc,
-        [
-            flag(alloc, "log", "Draws logs of a bus"),
-            log_arg(alloc, "pair", "A-B", pair)?,
-            log_arg(alloc, "from", "SECONDS", from)?,
-            log_arg(alloc, "to", "SECONDS", to)?,
-            log_arg(alloc, "interface", "NAME", interface)?,
-            log_flag(alloc, "all", all)?,
-            log_flag(alloc, "strict", "Ends at the first wrong line")?,
-            files(alloc, read).action(ArgAction::Append),
-        ],
-    )
-}
+/// The arguments, in the order of the help.
+const ROWS: [Row<'static>; 8] = [
+    Row {
+        form: Form::Flag,
+        name: "log",
+        value: "",
+        help: "Draws logs of a bus",
+    },
+    Row {
+        form: Form::LogValue,
+        name: "pair",
+        value: "A-B",
+        help: "Only frames between these nodes, and from either to all, hexadecimal",
+    },
+    Row {
+        form: Form::LogValue,
+        name: "from",
+        value: "SECONDS",
+        help: "No frame before this time",
+    },
+    Row {
+        form: Form::LogValue,
+        name: "to",
+        value: "SECONDS",
+        help: "No frame after this time",
+    },
+    Row {
+        form: Form::LogValue,
+        name: "interface",
+        value: "NAME",
+        help: "Interface whose frames are drawn [default: that of the first frame]",
+    },
+    Row {
+        form: Form::LogFlag,
+        name: "all",
+        value: "",
+        help: "Also draws frames that belong to no message",
+    },
+    Row {
+        form: Form::LogFlag,
+        name: "strict",
+        value: "",
+        help: "Ends at the first wrong line",
+    },
+    Row {
+        form: Form::Several,
+        name: "files",
+        value: "FILE",
+        help: "Script, or logs in the order of their times, - for standard input [default: -]",
+    },
+];
 
 /// The command as it is parsed, with its help.
 pub(crate) fn draw_command<'a>(alloc: Global) -> Result<Command<'a>, AllocError> {
@@ -93,52 +106,29 @@ pub(crate) fn draw_command<'a>(alloc: Global) -> Result<Command<'a>, AllocError>
         "draw",
         "Runs a script and draws it as a sequence diagram, or draws a log",
         DRAW_HELP,
-        draw_args(alloc),
+        &ROWS,
     )
 }
 
-/// The number that decimal digits write.
-fn decimal(digits: &str) -> Option<u64> {
-    if !digits.as_bytes().first()?.is_ascii_digit() {
-        return None;
-    }
-    digits.parse::<u64>().ok()
-}
-
-/// How many microseconds a word of seconds writes.
-fn time(word: &str) -> Option<u64> {
-    let (seconds, fraction) = word.split_once('.').unwrap_or((word, "0"));
-    if fraction.len() > MICROS {
-        return None;
-    }
-    let mut micros = decimal(fraction)?;
-    for _ in fraction.len()..MICROS {
-        micros = micros.saturating_mul(10);
-    }
-    decimal(seconds)?.checked_mul(SECOND)?.checked_add(micros)
-}
-
 /// The time that an argument names.
-fn time_of(alloc: Global, matches: &ArgMatches, name: &str) -> Result<Option<u64>, Refused> {
+fn time_of(
+    alloc: Global,
+    matches: &ArgMatches,
+    name: &str,
+    option: &str,
+) -> Result<Option<u64>, Refused> {
     let Some(word) = first_of(matches, name) else {
         return Ok(None);
     };
-    match time(word) {
+    match time(word.as_bytes()) {
         Some(time) => Ok(Some(time)),
-        None => Err(Refused::Word(format!(in alloc;
-            "invalid value '{word}' for '--{name}': not seconds with up to six digits after the point"
-        )?)),
+        None => Err(refuse(
+            alloc,
+            option,
+            word,
+            "not seconds with up to six digits after the point",
+        )),
     }
-}
-
-fn address(word: &str) -> Option<u8> {
-    u8::try_from(hexadecimal(word, ADDRESS_MOST)?).ok()
-}
-
-/// The two addresses that a word writes.
-fn pair(word: &str) -> Option<(u8, u8)> {
-    let (first, second) = word.split_once('-')?;
-    Some((address(first)?, address(second)?))
 }
 
 /// The pair that is named.
@@ -146,11 +136,14 @@ fn pair_of(alloc: Global, matches: &ArgMatches) -> Result<Option<(u8, u8)>, Refu
     let Some(word) = first_of(matches, "pair") else {
         return Ok(None);
     };
-    match pair(word) {
+    match pair(word.as_bytes()) {
         Some(pair) => Ok(Some(pair)),
-        None => Err(Refused::Word(format!(in alloc;
-            "invalid value '{word}' for '--pair': not two hexadecimal addresses with a hyphen between them"
-        )?)),
+        None => Err(refuse(
+            alloc,
+            "--pair",
+            word,
+            "not two hexadecimal addresses with a hyphen between them",
+        )),
     }
 }
 
@@ -158,8 +151,8 @@ fn pair_of(alloc: Global, matches: &ArgMatches) -> Result<Option<(u8, u8)>, Refu
 fn read_log(alloc: Global, matches: &ArgMatches) -> Result<OfDrawing, Refused> {
     Ok(OfDrawing {
         pair: pair_of(alloc, matches)?,
-        from: time_of(alloc, matches, "from")?,
-        to: time_of(alloc, matches, "to")?,
+        from: time_of(alloc, matches, "from", "--from")?,
+        to: time_of(alloc, matches, "to", "--to")?,
         interface: interface(alloc, matches)?,
         others: matches.get_flag("all"),
         strict: matches.get_flag("strict"),

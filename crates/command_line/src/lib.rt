@@ -4,22 +4,23 @@
 mod decode;
 mod draw;
 mod node;
+mod numbers;
 mod parts;
 mod refused;
 
-use clap::{ArgAction, ArgMatches, Command, Error};
+use clap::{ArgMatches, Command, Error};
 pub use decode::OfLog;
 use decode::{decode_command, read_decode};
 pub use draw::OfDrawing;
 use draw::{draw_command, read_draw};
 pub use node::{OfNode, OfPort};
 use node::{node_command, read_node};
-use parts::{SCRIPT, add, described, files, flag, list, named, names, of_numbers, within};
+use parts::{Form, Row, SCRIPT, described, names, put};
 use refused::{Refused, or_error};
 use std::alloc::{AllocError, Global};
 
 /// What a command line asks for.
-#[derive(Debug, PartialEq, Eq, Drop)]
+#[derive(Debug, Drop)]
 pub enum Asked {
     /// The script is run line by line.
     Script,
@@ -40,7 +41,7 @@ pub enum Asked {
 }
 
 /// A command line.
-#[derive(Debug, PartialEq, Eq, Drop)]
+#[derive(Debug, Drop)]
 pub struct Line {
     /// What it asks for.
     pub asked: Asked,
@@ -119,26 +120,29 @@ Status:
 
 docs/SCRIPTS.md describes the language, and this in its last part.";
 
+/// The arguments of `live` and `relay`, in the order of the help.
+const THREADS_ROWS: [Row<'static>; 2] = [
+    Row {
+        form: Form::Number(1, 1_000_000_000),
+        name: "turns",
+        value: "turns",
+        help: "Most turns of a worker, 1 to 1000000000 [default: 1000000]",
+    },
+    Row {
+        form: Form::Alone,
+        name: "files",
+        value: "FILE",
+        help: SCRIPT,
+    },
+];
+
 fn threads_command<'a>(
     alloc: Global,
     name: &'a str,
     about: &'a str,
     help: &'a str,
 ) -> Result<Command<'a>, AllocError> {
-    let turns = named(
-        alloc,
-        "turns",
-        "Most turns of a worker, 1 to 1000000000 [default: 1000000]",
-    )
-    .action(ArgAction::Set);
-    let turns = of_numbers(turns, within(1, 1_000_000_000));
-    described(
-        alloc,
-        name,
-        about,
-        help,
-        list(alloc, [turns, files(alloc, SCRIPT)]),
-    )
+    described(alloc, name, about, help, &THREADS_ROWS)
 }
 
 fn live_command<'a>(alloc: Global) -> Result<Command<'a>, AllocError> {
@@ -159,90 +163,111 @@ fn relay_command<'a>(alloc: Global) -> Result<Command<'a>, AllocError> {
     )
 }
 
-/// The commands among the words, in the order of the help.
-fn commands<'a>(alloc: Global) -> Result<Vec<Command<'a>>, AllocError> {
-    let commands = add(Ok(Vec::new(alloc)), live_command(alloc));
-    let commands = add(commands, relay_command(alloc));
-    let commands = add(commands, decode_command(alloc));
-    let commands = add(commands, draw_command(alloc));
-    add(commands, node_command(alloc))
+/// Puts the commands among the words, in the order of the help.
+fn put_commands<'a>(alloc: Global, commands: &mut Vec<Command<'a>>) -> Result<(), AllocError> {
+    put(commands, live_command(alloc))?;
+    put(commands, relay_command(alloc))?;
+    put(commands, decode_command(alloc))?;
+    put(commands, draw_command(alloc))?;
+    put(commands, node_command(alloc))
 }
+
+/// The program's own arguments, in the order of the help.
+const PROGRAM_ROWS: [Row<'static>; 2] = [
+    Row {
+        form: Form::Flag,
+        name: "log",
+        value: "",
+        help: "Prints only the frames, as a log, and the replies on standard error",
+    },
+    Row {
+        form: Form::Alone,
+        name: "files",
+        value: "FILE",
+        help: SCRIPT,
+    },
+];
 
 /// The program with its own arguments, for a command line that names none of its commands.
 fn without_commands<'a>(alloc: Global) -> Result<Command<'a>, AllocError> {
-    let log = flag(
-        alloc,
-        "log",
-        "Prints only the frames, as a log, and the replies on standard error",
-    );
     described(
         alloc,
         "j1939bus",
         "Runs a script, and prints the reply to each line",
         PROGRAM_HELP,
-        list(alloc, [log, files(alloc, SCRIPT)]),
+        &PROGRAM_ROWS,
     )
 }
 
-/// The command as it is parsed, with its help.
-fn program<'a>(alloc: Global) -> Result<Command<'a>, AllocError> {
-    let commands = commands(alloc)?;
-    without_commands(alloc)?
+/// The program with commands.
+fn with_commands<'a>(
+    program: Result<Command<'a>, AllocError>,
+    commands: Vec<Command<'a>>,
+) -> Result<Command<'a>, AllocError> {
+    program?
         .version("0.3.0")
         .args_conflicts_with_subcommands(true)
         .subcommands(commands)
 }
 
-/// The turns that a command is given, if it is the one that is named.
-fn turns_of(matches: &ArgMatches, name: &str) -> Option<u64> {
-    let threads = matches.subcommand_matches(name)?;
-    Some(threads.get_one::<u64>("turns").unwrap_or(TURNS))
+/// The command as it is parsed, with its help.
+fn program<'a>(alloc: Global) -> Result<Command<'a>, AllocError> {
+    let mut commands = Vec::new(alloc);
+    put_commands(alloc, &mut commands)?;
+    with_commands(without_commands(alloc), commands)
 }
 
-/// What the words ask for that name no threads and no drawing.
-fn read_log_or_bus(alloc: Global, matches: &ArgMatches) -> Result<Asked, Refused> {
-    if let Some(node) = matches.subcommand_matches("node") {
-        return Ok(Asked::Node(read_node(alloc, node)?));
-    }
-    match matches.subcommand_matches("decode") {
-        Some(decode) => Ok(Asked::Decode(read_decode(alloc, decode)?)),
-        None => Ok(Asked::Script),
-    }
+/// The turns of each worker.
+fn turns(words: &ArgMatches) -> u64 {
+    words.get_one::<u64>("turns").unwrap_or(TURNS)
 }
 
-/// The files that are named; a node reads standard input alone.
-fn read_files(alloc: Global, matches: &ArgMatches) -> Result<Vec<String>, AllocError> {
-    match matches.subcommand() {
-        Some((_, words)) => names(alloc, words),
-        None => names(alloc, matches),
+/// What is drawn.
+fn drawn(alloc: Global, words: &ArgMatches) -> Result<Asked, Refused> {
+    match read_draw(alloc, words)? {
+        Some(log) => Ok(Asked::DrawnLog(log)),
+        None => Ok(Asked::Drawn),
     }
 }
 
-/// What the words ask for that the command took.
-fn read_asked(alloc: Global, matches: &ArgMatches) -> Result<Asked, Refused> {
-    if let Some(turns) = turns_of(matches, "live") {
-        return Ok(Asked::Live { turns });
+/// What a command's words ask for.
+fn read_command(alloc: Global, name: &str, words: &ArgMatches) -> Result<Asked, Refused> {
+    match name {
+        "live" => Ok(Asked::Live {
+            turns: turns(words),
+        }),
+        "relay" => Ok(Asked::Relay {
+            turns: turns(words),
+        }),
+        "draw" => drawn(alloc, words),
+        "node" => Ok(Asked::Node(read_node(alloc, words)?)),
+        _ => Ok(Asked::Decode(read_decode(alloc, words)?)),
     }
-    if let Some(turns) = turns_of(matches, "relay") {
-        return Ok(Asked::Relay { turns });
-    }
-    if let Some(draw) = matches.subcommand_matches("draw") {
-        return Ok(match read_draw(alloc, draw)? {
-            Some(log) => Asked::DrawnLog(log),
-            None => Asked::Drawn,
-        });
-    }
+}
+
+/// What the words ask for that name no command.
+fn read_script(matches: &ArgMatches) -> Asked {
     if matches.get_flag("log") {
-        return Ok(Asked::Logged);
+        Asked::Logged
+    } else {
+        Asked::Script
     }
-    read_log_or_bus(alloc, matches)
 }
 
 /// What the words ask for, and what is read.
 fn read_line(alloc: Global, matches: &ArgMatches) -> Result<Line, Refused> {
-    let asked = read_asked(alloc, matches)?;
-    let files = read_files(alloc, matches)?;
-    Ok(Line { asked, files })
+    let Some((name, words)) = matches.subcommand() else {
+        let files = names(alloc, matches)?;
+        return Ok(Line {
+            asked: read_script(matches),
+            files,
+        });
+    };
+    let files = names(alloc, words)?;
+    Ok(Line {
+        asked: read_command(alloc, name, words)?,
+        files,
+    })
 }
 
 /// What words ask for, as the command parses them.

@@ -1,14 +1,13 @@
 //! The words of `node`.
-use crate::decode::{PGN_MOST, hexadecimal};
-use crate::parts::{described, flag, list, of_numbers, valued, within};
-use crate::refused::Refused;
-use clap::{Arg, ArgAction, ArgMatches, Command};
-use pgn_ids::Address;
+use crate::numbers::{NODE_MOST, PGN_MOST, address, hexadecimal};
+use crate::parts::{Form, Row, described};
+use crate::refused::{Refused, refuse};
+use clap::{ArgMatches, Command};
 use std::alloc::{AllocError, Global};
 use tp_wire::constants::ETP_MAX_SIZE;
 
 /// A port that a node opens before it reads a line.
-#[derive(Clone, Copy, Debug, PartialEq, Eq)]
+#[derive(Clone, Copy, Debug)]
 pub struct OfPort {
     /// The PGN of its messages, of 18 bits.
     pub pgn: u32,
@@ -17,7 +16,7 @@ pub struct OfPort {
 }
 
 /// Which node is asked for.
-#[derive(Debug, PartialEq, Eq, Drop)]
+#[derive(Debug, Drop)]
 pub struct OfNode {
     /// The node's address, 0 to 253.
     pub address: u8,
@@ -32,9 +31,6 @@ pub struct OfNode {
     /// Whether a program at the address may have sent messages in the last 1,250 ms: so it is unless the words say that the node is new.
     pub again: bool,
 }
-
-/// The highest address of a node.
-const NODE_MOST: u32 = Address::NULL.0 as u32 - 1;
 
 /// The quiet after a failed connection if none is named, in milliseconds.
 const QUIET: u64 = 700;
@@ -67,70 +63,45 @@ Status:
 
 docs/REAL-BUS.md describes what is read and printed.";
 
-fn address_arg<'a>(alloc: Global) -> Arg<'a> {
-    Arg::new(alloc, "address")
-        .value_name("ADDRESS")
-        .required(true)
-        .help("Address of the station, 00 to FD, hexadecimal")
-}
-
-fn interface_arg<'a>(alloc: Global) -> Arg<'a> {
-    valued(
-        alloc,
-        "interface",
-        "NAME",
-        ArgAction::Set,
-        "Interface of the station [default: that of the first frame]",
-    )
-}
-
-fn port_arg<'a>(alloc: Global) -> Arg<'a> {
-    valued(
-        alloc,
-        "port",
-        "PGN[:MAX]",
-        ArgAction::Append,
-        "Opens a port at the start, as open PGN MAX does [default MAX: 117440505]",
-    )
-}
-
-fn quiet_arg<'a>(alloc: Global) -> Arg<'a> {
-    let quiet = valued(
-        alloc,
-        "quiet",
-        "MS",
-        ArgAction::Set,
-        "Milliseconds of rest after a failed connection, 0 to 10000 [default: 700]",
-    );
-    of_numbers(quiet, within(0, 10_000))
-}
-
-fn strict_arg<'a>(alloc: Global) -> Arg<'a> {
-    flag(alloc, "strict", "Ends at the first wrong line")
-}
-
-fn new_arg<'a>(alloc: Global) -> Arg<'a> {
-    flag(
-        alloc,
-        "new",
-        "Sends messages at once: none left the address in the last 1,250 ms",
-    )
-}
-
-/// The arguments of `node`, in the order of the help.
-fn node_args<'a>(alloc: Global) -> Result<Vec<Arg<'a>>, AllocError> {
-    list(
-        alloc,
-        [
-            address_arg(alloc),
-            interface_arg(alloc),
-            port_arg(alloc),
-            quiet_arg(alloc),
-            strict_arg(alloc),
-            new_arg(alloc),
-        ],
-    )
-}
+/// The arguments, in the order of the help.
+const ROWS: [Row<'static>; 6] = [
+    Row {
+        form: Form::Required,
+        name: "address",
+        value: "ADDRESS",
+        help: "Address of the station, 00 to FD, hexadecimal",
+    },
+    Row {
+        form: Form::Value,
+        name: "interface",
+        value: "NAME",
+        help: "Interface of the station [default: that of the first frame]",
+    },
+    Row {
+        form: Form::Values,
+        name: "port",
+        value: "PGN[:MAX]",
+        help: "Opens a port at the start, as open PGN MAX does [default MAX: 117440505]",
+    },
+    Row {
+        form: Form::Number(0, 10_000),
+        name: "quiet",
+        value: "MS",
+        help: "Milliseconds of rest after a failed connection, 0 to 10000 [default: 700]",
+    },
+    Row {
+        form: Form::Flag,
+        name: "strict",
+        value: "",
+        help: "Ends at the first wrong line",
+    },
+    Row {
+        form: Form::Flag,
+        name: "new",
+        value: "",
+        help: "Sends messages at once: none left the address in the last 1,250 ms",
+    },
+];
 
 /// The command as it is parsed, with its help.
 pub(crate) fn node_command<'a>(alloc: Global) -> Result<Command<'a>, AllocError> {
@@ -139,7 +110,7 @@ pub(crate) fn node_command<'a>(alloc: Global) -> Result<Command<'a>, AllocError>
         "node",
         "Runs one station on a real bus, whose frames are read from standard input",
         NODE_HELP,
-        node_args(alloc),
+        &ROWS,
     )
 }
 
@@ -147,12 +118,12 @@ pub(crate) fn node_command<'a>(alloc: Global) -> Result<Command<'a>, AllocError>
 fn port(word: &str) -> Option<OfPort> {
     let Some((pgn, most)) = word.split_once(':') else {
         return Some(OfPort {
-            pgn: hexadecimal(word, PGN_MOST)?,
+            pgn: hexadecimal(word.as_bytes(), PGN_MOST)?,
             most: ETP_MAX_SIZE,
         });
     };
     Some(OfPort {
-        pgn: hexadecimal(pgn, PGN_MOST)?,
+        pgn: hexadecimal(pgn.as_bytes(), PGN_MOST)?,
         most: most.parse::<u32>().ok()?,
     })
 }
@@ -161,9 +132,12 @@ fn port(word: &str) -> Option<OfPort> {
 fn port_of(alloc: Global, word: &str) -> Result<OfPort, Refused> {
     match port(word) {
         Some(port) => Ok(port),
-        None => Err(Refused::Word(format!(in alloc;
-            "invalid value '{word}' for '--port': not a hexadecimal PGN up to 3FFFF, with or without :MAX bytes"
-        )?)),
+        None => Err(refuse(
+            alloc,
+            "--port",
+            word,
+            "not a hexadecimal PGN up to 3FFFF, with or without :MAX bytes",
+        )),
     }
 }
 
@@ -178,11 +152,14 @@ fn ports(alloc: Global, matches: &ArgMatches) -> Result<Vec<OfPort>, Refused> {
 
 /// The address that is named; if its word writes none, it is refused.
 fn address_of(alloc: Global, word: &str) -> Result<u8, Refused> {
-    match address(word) {
+    match address(word.as_bytes(), NODE_MOST) {
         Some(address) => Ok(address),
-        None => Err(Refused::Word(format!(in alloc;
-            "invalid value '{word}' for '<ADDRESS>': not a hexadecimal number up to FD"
-        )?)),
+        None => Err(refuse(
+            alloc,
+            "<ADDRESS>",
+            word,
+            "not a hexadecimal number up to FD",
+        )),
     }
 }
 
@@ -213,9 +190,4 @@ pub(crate) fn first_of<'a>(matches: &ArgMatches<'a>, name: &str) -> Option<&'a s
         Some(word) => Some(*word),
         None => None,
     }
-}
-
-/// The address that a word writes, if it is one of a node.
-fn address(word: &str) -> Option<u8> {
-    u8::try_from(hexadecimal(word, NODE_MOST)?).ok()
 }

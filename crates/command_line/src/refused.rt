@@ -2,7 +2,7 @@
 use crate::Line;
 use clap::error::ErrorKind;
 use clap::{Command, Error};
-use std::alloc::{AllocError, AllocFailed};
+use std::alloc::{AllocError, AllocFailed, Global};
 
 /// Why nothing was read.
 #[derive(Drop)]
@@ -22,6 +22,14 @@ impl From<AllocError> for Refused {
 impl<T: Drop> From<AllocFailed<T>> for Refused {
     fn from(_error: AllocFailed<T>) -> Refused {
         Refused::Memory
+    }
+}
+
+/// The refusal of a word that an option doesn't take.
+pub(crate) fn refuse(alloc: Global, option: &str, word: &str, why: &str) -> Refused {
+    match format!(in alloc; "invalid value '{word}' for '{option}': {why}") {
+        Ok(text) => Refused::Word(text),
+        Err(_) => Refused::Memory,
     }
 }
 

@@ -1,13 +1,14 @@
 //! The reports on a frame of an interface.
-ghost use Rattle.std.specs.Prelude.{◌≡◌, OnOk, IfOk};
+ghost use Rattle.std.specs.Prelude.{◌≡◌, None, OnOk, IfOk};
 ghost use Rattle.log_decode.specs.Decoder.{tp_news, etp_news, both_aborted, aborted, cm_frame_taken, wire_taken, frame_taken};
+ghost use Rattle.log_decode.specs.Sessions.{announced};
 ghost use Rattle.log_decode.specs.Stray.{cm_frame_stray, wire_stray, frame_stray};
 
 use crate::sessions::{News, Sessions, announce, is_of, take_abort, take_cm, take_packet};
 use crate::way::Way;
 use bus_frame::Frame;
 use log_fields::Iface;
-use log_reports::{Stray, Told};
+use log_reports::{Key, Stray, Told};
 use pgn_ids::WirePgn;
 use seg_cut::packets;
 use std::alloc::{AllocError, Global};
@@ -61,11 +62,13 @@ fn take_both(
     reason: u8,
     pgn: WirePgn,
     told: &mut Vec<Told>,
-) -> Result<(), AllocError>
-    ensures { OnOk result ((sessions.new.entries, told.new.items) ≡ aborted way kind reason pgn (sessions.old.entries, told.old.items)) }
+) -> Result<Option<Stray>, AllocError>
+    ensures told { OnOk result ((sessions.new.entries, told.new.items) ≡ aborted way kind reason pgn (sessions.old.entries, told.old.items)) }
+    ensures stray { IfOk result (λ stray. stray ≡ None) }
 {
     if is_of(sessions, way.key(kind), pgn) || is_of(sessions, way.back(kind), pgn) {
-        return end_both(sessions, way, kind, reason, pgn, told);
+        end_both(sessions, way, kind, reason, pgn, told)?;
+        return Ok(None);
     }
     told.push(Told::Aborted {
         key: way.key(kind),
@@ -73,7 +76,24 @@ fn take_both(
         reason,
         who: way.from,
     })?;
-    Ok(())
+    Ok(None)
+}
+
+/// An announcement, which belongs to its message.
+fn take_news(
+    alloc: Global,
+    sessions: &mut Sessions,
+    key: Key,
+    news: News,
+    most: u32,
+    now: u64,
+    told: &mut Vec<Told>,
+) -> Result<Option<Stray>, AllocError>
+    ensures told { OnOk result ((sessions.new.entries, told.new.items) ≡ announced key news most now (sessions.old.entries, told.old.items)) }
+    ensures stray { IfOk result (λ stray. stray ≡ None) }
+{
+    announce(alloc, sessions, key, news, most, now, told)?;
+    Ok(None)
 }
 
 /// A connection management frame. Answered is what it is if its message isn't under way.
@@ -98,9 +118,9 @@ fn take_cm_frame(
             ..
         } => {
             let news = tp_news(*pgn, *size, *packets);
-            announce(alloc, sessions, way.key(Kind::Tp), news, most, now, told)?;
+            take_news(alloc, sessions, way.key(Kind::Tp), news, most, now, told)
         }
-        CmFrame::Cts { .. } => return take_cm(
+        CmFrame::Cts { .. } => take_cm(
             sessions,
             way.back(Kind::Tp),
             Stray::Window,
@@ -108,7 +128,7 @@ fn take_cm_frame(
             now,
             told,
         ),
-        CmFrame::EndOfMsgAck { .. } => return take_cm(
+        CmFrame::EndOfMsgAck { .. } => take_cm(
             sessions,
             way.back(Kind::Tp),
             Stray::Acknowledgement,
@@ -118,16 +138,14 @@ fn take_cm_frame(
         ),
         CmFrame::Bam { size, packets, pgn } => {
             let news = tp_news(*pgn, *size, *packets);
-            announce(alloc, sessions, way.key(Kind::Tp), news, most, now, told)?;
+            take_news(alloc, sessions, way.key(Kind::Tp), news, most, now, told)
         }
-        CmFrame::Abort { reason, pgn } => {
-            take_both(sessions, way, Kind::Tp, *reason, *pgn, told)?;
-        }
+        CmFrame::Abort { reason, pgn } => take_both(sessions, way, Kind::Tp, *reason, *pgn, told),
         CmFrame::EtpRts { size, pgn } => {
             let news = etp_news(*pgn, *size);
-            announce(alloc, sessions, way.key(Kind::Etp), news, most, now, told)?;
+            take_news(alloc, sessions, way.key(Kind::Etp), news, most, now, told)
         }
-        CmFrame::EtpCts { .. } => return take_cm(
+        CmFrame::EtpCts { .. } => take_cm(
             sessions,
             way.back(Kind::Etp),
             Stray::Window,
@@ -135,7 +153,7 @@ fn take_cm_frame(
             now,
             told,
         ),
-        CmFrame::EtpDpo { .. } => return take_cm(
+        CmFrame::EtpDpo { .. } => take_cm(
             sessions,
             way.key(Kind::Etp),
             Stray::Window,
@@ -143,7 +161,7 @@ fn take_cm_frame(
             now,
             told,
         ),
-        CmFrame::EtpEoma { .. } => return take_cm(
+        CmFrame::EtpEoma { .. } => take_cm(
             sessions,
             way.back(Kind::Etp),
             Stray::Acknowledgement,
@@ -151,11 +169,15 @@ fn take_cm_frame(
             now,
             told,
         ),
-        CmFrame::EtpAbort { reason, pgn } => {
-            take_both(sessions, way, Kind::Etp, *reason, *pgn, told)?;
-        }
+        CmFrame::EtpAbort { reason, pgn } => take_both(
+            sessions,
+            way,
+            Kind::Etp,
+            *reason,
+            *pgn,
+            told,
+        ),
     }
-    Ok(None)
 }
 
 /// A transport frame.

@@ -1,8 +1,10 @@
 -- Texts that are put one behind the other, and the objects that they are.
-use Rattle.std.proofs.Common.{◌≡◌, List, ℕ, [], ◌∷◌, ◌++◌, Result, Ok, Err, OnOk, refl, sym, ◌∙◌, ap, append_assoc, codes, false}
+use Rattle.std.proofs.Common.{◌≡◌, List, ℕ, [], ◌∷◌, ◌++◌, Result, Ok, Err, OnOk, refl, sym, ◌∙◌, ap, append_assoc, codes, true, false}
 use Rattle.std.specs.declared.alloc.AllocError.{AllocError}
 use Rattle.serde_json.specs.Written.{compact_text}
-use Rattle.log_lines.specs.Objects.{Named, object_of, object_line, member_text, rest_text}
+use Rattle.log_courses.specs.declared.course.Place.{Place}
+use Rattle.log_lines.specs.Json.{place_object}
+use Rattle.log_lines.specs.Objects.{Named, object_of, count_of, object_line, key_text, member_text, rest_text}
 use Rattle.log_lines.proofs.Spelled.{line_spelled, all_spelled, tail_text}
 
 -- one, and then the others
@@ -35,3 +37,11 @@ is_object (m ∷ ms) = sym (all_spelled m ms)
 pub object_put : (result : Result (Unit {0}) AllocError) (a b : List ℕ) (ms : List Named) → OnOk result (b ≡ a ++ object_spelled ms) → OnOk result (b ≡ a ++ compact_text (object_of ms))
 object_put (Ok done) a b ms p = p ∙ ap (λ s. a ++ s) (is_object ms)
 object_put (Err error) a b ms p = tt
+
+-- a member that is a place
+pub place_put : (result : Result (Unit {0}) AllocError) (a b name : List ℕ) (p : Place)
+    → OnOk result (b ≡ a ++ (key_text true name ++ object_spelled ((codes "number", count_of p.number) ∷ (codes "time", count_of p.time) ∷ [])))
+    → OnOk result (b ≡ a ++ member_text true name (place_object p))
+unfolding member_text
+place_put (Ok done) a b name p h = h ∙ ap (λ s. a ++ (key_text true name ++ s)) (is_object ((codes "number", count_of p.number) ∷ (codes "time", count_of p.time) ∷ []))
+place_put (Err error) a b name p h = tt

@@ -2,8 +2,8 @@
 use Rattle.std.proofs.Common.{◌≡◌, ℕ, ◌+◌, ◌<◌, ◌≤◌, List, [], ◌∷◌, ◌++◌, refl, ap, ◌∙◌, sym, append_assoc, ◌/◌, ◌%◌, ◌==◌, Bool, true, false, nat_lt, arith}
 use Rattle.std.proofs.lemmas.Bool.Decides.{nat_tests}
 use Rattle.std.proofs.lemmas.Nat.{mod_below}
-use Rattle.json.specs.Print.{escape_letter, escape_byte, escape, quoted}
-use Rattle.text_digits.specs.Digits.{digit_char, digits, unspaced}
+use Rattle.json.specs.Print.{escape_byte, escape, quoted}
+use Rattle.text_digits.specs.Digits.{digit_char, unspaced}
 
 -- digits and letters are escaped no more than what lies between them
 plain : (x : ℕ) → 35 ≤ x → x < 92 → escape_byte x ≡ x ∷ []

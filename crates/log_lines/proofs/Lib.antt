@@ -1,4 +1,4 @@
 mod Digits
 mod Spelled
 mod Appends
-mod MessageAppends
+mod Behind

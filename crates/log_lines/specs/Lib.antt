@@ -8,3 +8,4 @@ pub mod Frames
 pub mod Json
 pub mod Table
 pub mod Rows
+pub mod Rest

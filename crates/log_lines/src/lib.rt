@@ -15,6 +15,7 @@ mod meanings;
 mod members;
 mod objects;
 mod parts;
+mod rest;
 mod rows;
 mod strings;
 mod table;

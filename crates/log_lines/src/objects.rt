@@ -1,24 +1,21 @@
 //! The printed text of a log as JSON.
-ghost use Rattle.std.specs.Prelude.{◌≡◌, ◌++◌, OnOk, true, length, codes};
-ghost use Rattle.log_lines.specs.Objects.{count_of, member_text, object_line, rest_text};
+ghost use Rattle.std.specs.Prelude.{◌≡◌, ◌++◌, OnOk, true};
+ghost use Rattle.log_lines.specs.Objects.{member_text, object_line};
 ghost use Rattle.serde_json.specs.Data.{string};
-ghost use Rattle.log_fields.specs.Iface.{name_of};
-ghost use Rattle.log_reports.specs.Causes.{cause_words};
-ghost use Rattle.log_lines.specs.Json.{place_object, measured_members, given_members, abort_members, aborted_members, lost_members, frame_members, told_object, single_object, wrong_object};
+ghost use Rattle.log_lines.specs.Json.{place_object, given_members, aborted_members, lost_members, frame_members, told_object, single_object, wrong_object};
 
-use crate::frames::put_frames;
-use crate::meanings::put_explained;
 use crate::members::{put_hex, put_key, put_number, put_string};
+use crate::rest::{Member, put_rest};
 use bus_frame::Frame;
 use log_courses::{Course, Detail, Place};
 use log_fields::Iface;
-use log_reports::{Cause, Key, Line, Told, cause_words};
+use log_reports::{Cause, Key, Line, Told};
 use pgn_ids::{Address, Pgn, read_id};
 use std::alloc::AllocError;
 use text_digits::put_text;
 
 /// A member that gives the place of a frame in the log.
-fn put_place(out: &mut Vec<u8>, name: &str, place: Place) -> Result<(), AllocError>
+pub(crate) fn put_place(out: &mut Vec<u8>, name: &str, place: Place) -> Result<(), AllocError>
     ensures { OnOk result (out.new.items ≡ out.old.items ++ member_text true name.now (place_object place)) }
 {
     put_key(out, true, name)?;
@@ -26,24 +23,6 @@ fn put_place(out: &mut Vec<u8>, name: &str, place: Place) -> Result<(), AllocErr
     put_number(out, false, "number", place.number)?;
     put_number(out, true, "time", place.time)?;
     put_text(out, "}")
-}
-
-pub(crate) fn put_address(out: &mut Vec<u8>, name: &str, address: Address) -> Result<(), AllocError>
-    ensures { OnOk result (out.new.items ≡ out.old.items ++ member_text true name.now (count_of address.0)) }
-{
-    put_number(out, true, name, u64::from(address.0))
-}
-
-pub(crate) fn put_pgn(out: &mut Vec<u8>, pgn: Pgn) -> Result<(), AllocError>
-    ensures { OnOk result (out.new.items ≡ out.old.items ++ member_text true (codes "pgn") (count_of pgn)) }
-{
-    put_number(out, true, "pgn", u64::from(pgn.raw()))
-}
-
-pub(crate) fn put_interface(out: &mut Vec<u8>, iface: Iface) -> Result<(), AllocError>
-    ensures { OnOk result (out.new.items ≡ out.old.items ++ member_text true (codes "interface") (string (name_of iface))) }
-{
-    put_string(out, true, "interface", iface.name())
 }
 
 pub(crate) fn put_word(
@@ -57,90 +36,38 @@ pub(crate) fn put_word(
     put_string(out, later, name, word.as_bytes())
 }
 
-fn put_cause(out: &mut Vec<u8>, cause: Cause) -> Result<(), AllocError>
-    ensures { OnOk result (out.new.items ≡ out.old.items ++ member_text true (codes "cause") (string (cause_words cause))) }
-{
-    put_word(out, true, "cause", cause_words(cause))
-}
-
-/// The rest of the line of a message that has a length.
-fn put_measured(
-    out: &mut Vec<u8>,
-    now: u64,
-    iface: Iface,
-    kind: &str,
-    course: &Course,
-    length: u64,
-    pgn: Pgn,
-    to: Address,
-) -> Result<(), AllocError>
-    ensures { OnOk result (out.new.items ≡ out.old.items ++ rest_text (measured_members now iface kind.now course.now length pgn to)) }
-{
-    put_interface(out, iface)?;
-    put_word(out, true, "kind", kind)?;
-    put_place(out, "last", course.last)?;
-    put_number(out, true, "length", length)?;
-    put_pgn(out, pgn)?;
-    put_number(out, true, "time", now)?;
-    put_address(out, "to", to)?;
-    put_text(out, "}\n")
-}
-
-fn put_given_rest(
-    out: &mut Vec<u8>,
-    now: u64,
-    course: &Course,
-    key: &Key,
-    pgn: Pgn,
-    bytes: &[u8],
-) -> Result<(), AllocError>
-    ensures { OnOk result (out.new.items ≡ out.old.items ++ rest_text (measured_members now key.now.iface (codes "given") course.now (length bytes.now) pgn key.now.to)) }
-{
-    let length = bytes.len() as u64;
-    put_measured(out, now, key.iface, "given", course, length, pgn, key.to)
-}
-
 /// The line of a message that was given.
-fn put_given(
+fn put_given<'a>(
     out: &mut Vec<u8>,
     detail: Detail,
     now: u64,
-    course: &Course,
-    explained: &[Line],
+    course: &'a Course,
+    explained: &'a [Line],
     key: &Key,
     pgn: Pgn,
-    bytes: &[u8],
+    bytes: &'a [u8],
 ) -> Result<(), AllocError>
     ensures { OnOk result (out.new.items ≡ out.old.items ++ object_line (given_members detail now course.now explained.now key.now pgn bytes.now)) }
 {
     put_text(out, "{")?;
     put_number(out, false, "again", course.again)?;
-    put_hex(out, true, "data", bytes)?;
-    put_explained(out, explained)?;
-    put_place(out, "first", course.first)?;
-    put_frames(out, detail, course.marks.as_slice())?;
-    put_address(out, "from", key.from)?;
-    put_given_rest(out, now, course, key, pgn, bytes)
-}
-
-fn put_have(out: &mut Vec<u8>, have: u32) -> Result<(), AllocError>
-    ensures { OnOk result (out.new.items ≡ out.old.items ++ member_text true (codes "have") (count_of have)) }
-{
-    put_number(out, true, "have", u64::from(have))
-}
-
-fn put_lost_rest(
-    out: &mut Vec<u8>,
-    now: u64,
-    course: &Course,
-    key: &Key,
-    pgn: Pgn,
-    size: u32,
-) -> Result<(), AllocError>
-    ensures { OnOk result (out.new.items ≡ out.old.items ++ rest_text (measured_members now key.now.iface (codes "lost") course.now size pgn key.now.to)) }
-{
-    let size = u64::from(size);
-    put_measured(out, now, key.iface, "lost", course, size, pgn, key.to)
+    put_rest(
+        out,
+        &[
+            Member::Data(bytes),
+            Member::Explained(explained),
+            Member::Place("first", course.first),
+            Member::Frames(detail, &course.marks),
+            Member::Address("from", key.from),
+            Member::Interface(key.iface),
+            Member::Words("kind", "given"),
+            Member::Place("last", course.last),
+            Member::Length(bytes),
+            Member::Pgn(pgn),
+            Member::Number("time", now),
+            Member::Address("to", key.to),
+        ],
+    )
 }
 
 /// The line of a message that is lost.
@@ -159,39 +86,23 @@ fn put_lost(
 {
     put_text(out, "{")?;
     put_number(out, false, "again", course.again)?;
-    put_cause(out, cause)?;
-    put_place(out, "first", course.first)?;
-    put_frames(out, detail, course.marks.as_slice())?;
-    put_address(out, "from", key.from)?;
-    put_have(out, have)?;
-    put_lost_rest(out, now, course, key, pgn, size)
-}
-
-fn put_reason(out: &mut Vec<u8>, reason: u8) -> Result<(), AllocError>
-    ensures { OnOk result (out.new.items ≡ out.old.items ++ member_text true (codes "reason") (count_of reason)) }
-{
-    put_number(out, true, "reason", u64::from(reason))
-}
-
-/// The rest of the line of a message that was aborted.
-fn put_abort(
-    out: &mut Vec<u8>,
-    now: u64,
-    course: &Course,
-    key: &Key,
-    pgn: Pgn,
-    reason: u8,
-) -> Result<(), AllocError>
-    ensures { OnOk result (out.new.items ≡ out.old.items ++ rest_text (abort_members now course.now key.now pgn reason)) }
-{
-    put_interface(out, key.iface)?;
-    put_word(out, true, "kind", "aborted")?;
-    put_place(out, "last", course.last)?;
-    put_pgn(out, pgn)?;
-    put_reason(out, reason)?;
-    put_number(out, true, "time", now)?;
-    put_address(out, "to", key.to)?;
-    put_text(out, "}\n")
+    put_rest(
+        out,
+        &[
+            Member::Cause(cause),
+            Member::Place("first", course.first),
+            Member::Frames(detail, &course.marks),
+            Member::Address("from", key.from),
+            Member::Number("have", u64::from(have)),
+            Member::Interface(key.iface),
+            Member::Words("kind", "lost"),
+            Member::Place("last", course.last),
+            Member::Number("length", u64::from(size)),
+            Member::Pgn(pgn),
+            Member::Number("time", now),
+            Member::Address("to", key.to),
+        ],
+    )
 }
 
 /// The line of a message that was aborted.
@@ -209,11 +120,22 @@ fn put_aborted(
 {
     put_text(out, "{")?;
     put_number(out, false, "again", course.again)?;
-    put_address(out, "by", who)?;
-    put_place(out, "first", course.first)?;
-    put_frames(out, detail, course.marks.as_slice())?;
-    put_address(out, "from", key.from)?;
-    put_abort(out, now, course, key, pgn, reason)
+    put_rest(
+        out,
+        &[
+            Member::Address("by", who),
+            Member::Place("first", course.first),
+            Member::Frames(detail, &course.marks),
+            Member::Address("from", key.from),
+            Member::Interface(key.iface),
+            Member::Words("kind", "aborted"),
+            Member::Place("last", course.last),
+            Member::Pgn(pgn),
+            Member::Number("reason", u64::from(reason)),
+            Member::Number("time", now),
+            Member::Address("to", key.to),
+        ],
+    )
 }
 
 /// The line of a report at a time in microseconds, with its course, and with the course's frames if frames are listed. A message that was given
@@ -258,36 +180,34 @@ pub fn put_told_object(
     }
 }
 
-fn put_length(out: &mut Vec<u8>, bytes: &[u8]) -> Result<(), AllocError>
-    ensures { OnOk result (out.new.items ≡ out.old.items ++ member_text true (codes "length") (count_of (length bytes.now))) }
-{
-    put_number(out, true, "length", bytes.len() as u64)
-}
-
 /// The line of a frame that carries nothing of a message.
-fn put_frame(
+fn put_frame<'a>(
     out: &mut Vec<u8>,
     now: u64,
     iface: Iface,
-    explained: &[Line],
+    explained: &'a [Line],
     from: Address,
     to: Address,
     pgn: Pgn,
-    bytes: &[u8],
+    bytes: &'a [u8],
 ) -> Result<(), AllocError>
     ensures { OnOk result (out.new.items ≡ out.old.items ++ object_line (frame_members now iface explained.now from to pgn bytes.now)) }
 {
     put_text(out, "{")?;
     put_hex(out, false, "data", bytes)?;
-    put_explained(out, explained)?;
-    put_address(out, "from", from)?;
-    put_interface(out, iface)?;
-    put_word(out, true, "kind", "frame")?;
-    put_length(out, bytes)?;
-    put_pgn(out, pgn)?;
-    put_number(out, true, "time", now)?;
-    put_address(out, "to", to)?;
-    put_text(out, "}\n")
+    put_rest(
+        out,
+        &[
+            Member::Explained(explained),
+            Member::Address("from", from),
+            Member::Interface(iface),
+            Member::Words("kind", "frame"),
+            Member::Length(bytes),
+            Member::Pgn(pgn),
+            Member::Number("time", now),
+            Member::Address("to", to),
+        ],
+    )
 }
 
 /// The line of a frame that carries nothing of a message, seen at a time in microseconds, with these lines that say what it means, if there are

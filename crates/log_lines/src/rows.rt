@@ -1,15 +1,12 @@
 //! The rows of a summary, as objects of JSON.
 ghost use Rattle.std.specs.Prelude.{◌≡◌, ◌∷◌, ◌++◌, map, flat_map, codes, true, false, OnOk};
 ghost use Rattle.json.specs.Print.{quoted};
-ghost use Rattle.log_lines.specs.Objects.{count_of, member_text, object_line, rest_text, members_from};
-ghost use Rattle.serde_json.specs.Data.{string};
+ghost use Rattle.log_lines.specs.Objects.{count_of, member_text, object_line, members_from};
 ghost use Rattle.serde_json.specs.Written.{comma_if, compact_text, members_text};
-ghost use Rattle.log_fields.specs.Iface.{name_of};
-ghost use Rattle.log_summary.specs.Rows.{mean_of, share_of};
-ghost use Rattle.log_lines.specs.Rows.{abort_member, aborts_object, loss_member, losses_object, last_members, row_members, row_object, row_objects};
+ghost use Rattle.log_lines.specs.Rows.{abort_member, aborts_object, loss_member, losses_object, row_members, row_object, row_objects};
 
-use crate::members::{put_key, put_number, put_string};
-use crate::objects::{put_address, put_interface, put_pgn};
+use crate::members::{put_key, put_number};
+use crate::rest::{Member, put_rest};
 use itoa::Buffer;
 use log_reports::cause_words;
 use log_summary::{AbortCount, LossCount, Row, Summary};
@@ -70,7 +67,7 @@ fn put_loss_counts(out: &mut Vec<u8>, lost: &[LossCount]) -> Result<(), AllocErr
 }
 
 #[tactic(auto, unfolding(crate::specs::Objects::member_text))]
-fn put_losses(out: &mut Vec<u8>, lost: &[LossCount]) -> Result<(), AllocError>
+pub(crate) fn put_losses(out: &mut Vec<u8>, lost: &[LossCount]) -> Result<(), AllocError>
     ensures { OnOk result (out.new.items ≡ out.old.items ++ member_text true (codes "losses") (losses_object lost.now)) }
 {
     put_key(out, true, "losses")?;
@@ -78,56 +75,35 @@ fn put_losses(out: &mut Vec<u8>, lost: &[LossCount]) -> Result<(), AllocError>
     put_loss_counts(out, lost)
 }
 
-fn put_kind(out: &mut Vec<u8>) -> Result<(), AllocError>
-    ensures { OnOk result (out.new.items ≡ out.old.items ++ member_text true (codes "kind") (string (codes "summary"))) }
-{
-    put_string(out, true, "kind", b"summary")
-}
-
-fn put_mean(out: &mut Vec<u8>, row: &Row) -> Result<(), AllocError>
-    ensures { OnOk result (out.new.items ≡ out.old.items ++ member_text true (codes "mean") (count_of (mean_of row.now))) }
-{
-    put_number(out, true, "mean", row.mean())
-}
-
-fn put_share(out: &mut Vec<u8>, row: &Row, all: u64) -> Result<(), AllocError>
-    ensures { OnOk result (out.new.items ≡ out.old.items ++ member_text true (codes "share") (count_of (share_of row.now.frames all))) }
-{
-    put_number(out, true, "share", row.share(all))
-}
-
-/// The rest of the line, of so many frames of the interface.
-fn put_last(out: &mut Vec<u8>, row: &Row, lost: &[LossCount], all: u64) -> Result<(), AllocError>
-    ensures { OnOk result (out.new.items ≡ out.old.items ++ rest_text (last_members row.now lost.now all)) }
-{
-    put_number(out, true, "longest", row.longest)?;
-    put_losses(out, lost)?;
-    put_mean(out, row)?;
-    put_pgn(out, row.pgn)?;
-    put_share(out, row, all)?;
-    put_address(out, "to", row.to)?;
-    put_text(out, "}\n")
-}
-
-fn put_row(
+fn put_row<'a>(
     out: &mut Vec<u8>,
-    row: &Row,
+    row: &'a Row,
     aborts: &[AbortCount],
-    lost: &[LossCount],
+    lost: &'a [LossCount],
     all: u64,
 ) -> Result<(), AllocError>
     ensures { OnOk result (out.new.items ≡ out.old.items ++ object_line (row_members row.now aborts.now lost.now all)) }
 {
     put_text(out, "{")?;
     put_aborts(out, aborts)?;
-    put_number(out, true, "again", row.again)?;
-    put_number(out, true, "bytes", row.bytes)?;
-    put_number(out, true, "frames", row.frames)?;
-    put_address(out, "from", row.from)?;
-    put_number(out, true, "given", row.given)?;
-    put_interface(out, row.iface)?;
-    put_kind(out)?;
-    put_last(out, row, lost, all)
+    put_rest(
+        out,
+        &[
+            Member::Number("again", row.again),
+            Member::Number("bytes", row.bytes),
+            Member::Number("frames", row.frames),
+            Member::Address("from", row.from),
+            Member::Number("given", row.given),
+            Member::Interface(row.iface),
+            Member::Words("kind", "summary"),
+            Member::Number("longest", row.longest),
+            Member::Losses(lost),
+            Member::Mean(row),
+            Member::Pgn(row.pgn),
+            Member::Share(row, all),
+            Member::Address("to", row.to),
+        ],
+    )
 }
 
 #[tactic(auto, unfolding(crate::specs::Rows::row_object))]

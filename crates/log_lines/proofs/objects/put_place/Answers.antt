@@ -1,5 +1,4 @@
-use Rattle.log_lines.proofs.Appends.{behind}
-use Rattle.log_lines.proofs.MessageAppends.{place_put}
+use Rattle.log_lines.proofs.Appends.{behind, place_put}
 use Rattle.log_lines.proofs.objects.put_place.Goals as goal
 
 pub returns : goal.returns
