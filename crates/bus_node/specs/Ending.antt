@@ -1,5 +1,5 @@
 -- How a run ended.
-use Rattle.std.specs.Prelude.{◌≡◌, ℕ, List, false, ◌==◌, if◌then◌else◌, Option, Some, None}
+use Rattle.std.specs.Prelude.{◌≡◌, ℕ, List, false, Option, None}
 use Rattle.line_runs.specs.Outcome.{Outcome}
 use Rattle.line_runs.specs.Ending as lines
 use Rattle.bus_node.specs.Node.{Node}
@@ -12,7 +12,3 @@ Ended ran a b o = lines.Ended (record { fault = ran.fault; memory_refused = ran.
 -- a run that reached the end of its input left this node, and counted all lines
 abbrev pub Left : Ran → (node left : Node) → Type 0
 Left ran node left = ran.memory_refused ≡ false → ran.fault ≡ None → (node ≡ left) × (ran.counts ≡ left.counts)
-
--- the status of a program
-abbrev pub status_of : Ran → ℕ
-status_of ran = elim ran.fault [ None ↦ if ran.counts.wrong == 0 then 0 else 1 | Some f ↦ 1 ]

@@ -1,11 +1,12 @@
 //! A node's input, read and obeyed line by line.
 ghost use Rattle.std.specs.Prelude.{◌≡◌, IfSome};
 ghost use Rattle.bus_node.specs.Outcome.{node_limits, outcome, left};
-ghost use Rattle.bus_node.specs.Ending.{Ended, Left, status_of};
+ghost use Rattle.line_runs.specs.Ending.{status_of};
+ghost use Rattle.bus_node.specs.Ending.{Ended, Left};
 
 use crate::line_counts::LineCounts;
 use crate::node::Node;
-use line_runs::{Limits, run_lines};
+use line_runs::{Limits, run_lines, status_of};
 use script_commands::ScriptFault;
 use std::alloc::Global;
 use std::io;
@@ -29,12 +30,9 @@ pub struct Ran {
 impl Ran {
     /// The status of a program that made this run: 0 if it reached the end of its input and no line was wrong, else 1.
     pub fn status(&self) -> u8
-        ensures { result ≡ status_of self.now }
+        ensures { result ≡ status_of self.now.fault self.now.counts.wrong }
     {
-        match self.fault {
-            None => { if self.counts.wrong == 0 { 0 } else { 1 } }
-            Some(_) => 1,
-        }
+        status_of(self.fault, self.counts.wrong)
     }
 }
 

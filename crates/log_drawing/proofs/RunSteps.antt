@@ -8,11 +8,11 @@ use Rattle.text_lines.proofs.Known.{front_none, appends_more, appends_front}
 use Rattle.script_commands.specs.declared.ending.Cause.{Cause}
 use Rattle.script_commands.specs.declared.ending.Cause.TheVariants as causes
 use Rattle.script_commands.specs.declared.fault.Fault.{Fault}
-use Rattle.line_runs.specs.Limits.{above, IsAbove, Read}
+use Rattle.line_runs.specs.Limits.{above, IsAbove, Read, log_limits}
 use Rattle.line_runs.specs.declared.limits.Limits.{Limits}
 use Rattle.log_drawing.specs.Packets.{closing}
 use Rattle.log_drawing.specs.Picture.{Step, is_ended, line_seen}
-use Rattle.log_drawing.specs.Outcome.{Outcome, log_limits, closed, told, then_rest, outcome_from, outcome}
+use Rattle.log_drawing.specs.Outcome.{Outcome, closed, told, then_rest, outcome_from, outcome}
 use Rattle.log_drawing.specs.Ending.{is_of_log, WrittenBy, WrittenAs, SaysBy, Says, Stopped, Ended}
 use Rattle.log_drawing.specs.declared.options.Options.{Options}
 use Rattle.log_drawing.specs.declared.picture.Picture.{Picture}

@@ -1,18 +1,13 @@
 -- What a log draws, line by line, up to its fault.
-use Rattle.std.specs.Prelude.{ℕ, ◌+◌, ◌-◌, ◌^◌, List, [], ◌∷◌, ◌++◌, Option, Some, None, if◌then◌else◌}
+use Rattle.std.specs.Prelude.{ℕ, ◌+◌, List, [], ◌∷◌, ◌++◌, Option, Some, None, if◌then◌else◌}
 use Rattle.text_lines.specs.Lines.{lines_of}
 use Rattle.script_commands.specs.declared.fault.Fault.{Fault}
-use Rattle.line_runs.specs.Limits.{above}
-use Rattle.line_runs.specs.declared.limits.Limits.{Limits}
+use Rattle.line_runs.specs.Limits.{above, log_limits}
 use Rattle.log_drawing.specs.Packets.{closing}
 use Rattle.log_drawing.specs.Picture.{Step, first_picture, is_ended, line_seen}
 use Rattle.log_drawing.specs.declared.counts.Counts.{Counts}
 use Rattle.log_drawing.specs.declared.options.Options.{Options}
 use Rattle.log_drawing.specs.declared.picture.Picture.{Picture}
-
--- the most lines, and the most bytes of a line
-abbrev pub log_limits : Limits
-log_limits = record { lines = 2 ^ 64 - 2; bytes = 8192 }
 
 -- the drawing, the lines on standard error, what was counted, and the fault with its line, if there is one
 pub record Outcome : Type 0 where

@@ -3,7 +3,7 @@ ghost use Rattle.std.specs.Prelude.{◌≡◌, IfSome, MatchResult, Some};
 ghost use Rattle.std.specs.Io.KnownBytes.{Appends};
 ghost use Rattle.text_lines.specs.Known.{IsFront};
 ghost use Rattle.log_drawing.specs.Packets.{closing};
-ghost use Rattle.log_drawing.specs.Outcome.{log_limits, outcome, closed};
+ghost use Rattle.log_drawing.specs.Outcome.{outcome, closed};
 ghost use Rattle.log_drawing.specs.Ending.{at_line, WrittenAs, Says, Stopped, Ended, status_of};
 
 use crate::counts::Counts;
@@ -41,16 +41,6 @@ impl Drawn {
             }
             Some(_) => 1,
         }
-    }
-}
-
-/// The most lines of a log, and the most bytes of a line.
-fn log_limits() -> Limits
-    ensures { result ≡ log_limits }
-{
-    Limits {
-        lines: u64::MAX - 1,
-        bytes: 8192,
     }
 }
 
@@ -148,7 +138,7 @@ pub fn draw_log<R: BufRead, W: Write, E: Write>(
     ensures { IfSome (R.remaining reader.old) (λ log.
         Ended result (W.contents writer.old) (W.contents writer.new) (E.contents errors.old) (E.contents errors.new) (outcome options.now log)) }
 {
-    let limits = log_limits();
+    let limits = Limits::of_log();
     let mut picture = Picture::new(options);
     let mut line = Vec::new(alloc);
     let mut out = Vec::new(alloc);

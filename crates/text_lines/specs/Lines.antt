@@ -31,7 +31,3 @@ abbrev pub ReadsLineUpTo : ℕ → LineRead → List ℕ → List ℕ → List �
 ReadsLineUpTo most End line all rest = lines_of all ≡ []
 ReadsLineUpTo most Line line all rest = lines_of all ≡ line ∷ lines_of rest
 ReadsLineUpTo most TooLong line all rest = (long : List ℕ) × (others : List (List ℕ)) × (lines_of all ≡ long ∷ others) × (most < length long)
-
--- a line of a script
-abbrev pub ReadsLine : LineRead → List ℕ → List ℕ → List ℕ → Type 0
-ReadsLine read line all rest = ReadsLineUpTo 8192 read line all rest

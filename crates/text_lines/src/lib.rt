@@ -5,5 +5,5 @@
 mod lines;
 mod writing;
 
-pub use lines::{LineRead, MAX_LINE, ReadError, held_line, read_line, read_line_up_to};
+pub use lines::{LineRead, MAX_LINE, ReadError, held_line, read_line_up_to};
 pub use writing::{put_all, tell};

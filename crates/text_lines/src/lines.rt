@@ -2,7 +2,7 @@
 ghost use Rattle.std.specs.Prelude.{◌≡◌, ◌≤◌, length, IfOk};
 ghost use Rattle.text_lines.specs.declared.lines.ReadError.TheVariants.{OutOfMemory};
 ghost use Rattle.text_lines.specs.Known.{TakesPart, Known};
-ghost use Rattle.text_lines.specs.Lines.{before_feed, held_line, ReadsLine, ReadsLineUpTo};
+ghost use Rattle.text_lines.specs.Lines.{before_feed, held_line, ReadsLineUpTo};
 
 use memchr::memchr;
 use std::alloc::AllocError;
@@ -112,17 +112,8 @@ fn take_part<R: BufRead>(most: usize, reader: &mut R, line: &mut Vec<u8>) -> Res
     Ok(Part::Feed)
 }
 
-/// The most bytes that a line of a script may have.
+/// The most bytes that a line of a script or of a log may have.
 pub const MAX_LINE: usize = 8192;
-
-/// Reads the next line of a script into `line`, without its line feed: it may have up to 8,192 bytes.
-pub fn read_line<R: BufRead>(reader: &mut R, line: &mut Vec<u8>) -> Result<LineRead, ReadError>
-    ensures short { length line.new.items ≤ 8192 }
-    ensures reads { IfOk result (λ read. Known (R.remaining reader.old) (R.remaining reader.new) (λ all rest.
-        ReadsLine read line.new.items all rest)) }
-{
-    read_line_up_to(MAX_LINE, reader, line)
-}
 
 /// Reads the next line into `line`, without its line feed: it may have up to `most` bytes.
 pub fn read_line_up_to<R: BufRead>(

@@ -8,7 +8,7 @@ returns-in-Ok-false g c =
     let line = c.next_line.new.line.items in
     let rb = g.R.Read.remaining c.lines.reader in
     let rc = g.R.Read.remaining c.next_line.new.reader in
-    let read = reads_as _ c.lines.number c.in-Ok-false.field-0 false line rb rc c.log_limits-limits.ensures c.in-Ok-false.field-0-test c.in-Ok-false.ensures.read in
+    let read = reads_as _ c.lines.number c.in-Ok-false.field-0 false line rb rc c.of_log-limits.ensures c.in-Ok-false.field-0-test c.in-Ok-false.ensures.read in
     ended_all _ _ rb _ _ _ _ _ _ _ _ _ c.lines.invariant (at_end _ rb rc line _ _ _ _ _ _ read c.end_run.ensures.text c.end_run.ensures.told)
 
 pub returns-in-Err : goal.returns-in-Err
@@ -16,7 +16,7 @@ returns-in-Err g c =
     let line = c.next_line.new.line.items in
     let rb = g.R.Read.remaining c.lines.reader in
     let rc = g.R.Read.remaining c.next_line.new.reader in
-    let read = reads _ c.lines.number (Err c.in-Err.cause) line rb rc c.log_limits-limits.ensures c.in-Err.ensures.read in
+    let read = reads _ c.lines.number (Err c.in-Err.cause) line rb rc c.of_log-limits.ensures c.in-Err.ensures.read in
     ended_all _ _ rb _ _ _ _ _ _ _ _ _ c.lines.invariant (at_no_line _ rb rc line _ _ _ _ _ _ c.in-Err.cause read c.stop.ensures)
 
 pub returns-in_default : goal.returns-in_default
@@ -27,7 +27,7 @@ returns-in_default-tell_both g c =
     let line = c.next_line.new.line.items in
     let rb = g.R.Read.remaining c.lines.reader in
     let rc = g.R.Read.remaining c.next_line.new.reader in
-    let read = reads_as _ c.lines.number c.in-Ok-true.field-0 true line rb rc c.log_limits-limits.ensures c.in-Ok-true.field-0-test c.in-Ok-true.ensures.read in
+    let read = reads_as _ c.lines.number c.in-Ok-true.field-0 true line rb rc c.of_log-limits.ensures c.in-Ok-true.field-0-test c.in-Ok-true.ensures.read in
     let seen = was_seen (line_seen c.args.options.now c.lines.picture c.lines.number line) c.take_line.new.self c.take_line.new.out.items c.take_line.new.told.items
     (rw c.as_slice.ensures.value at c.in-Ok.ensures.left) (rw c.clear.ensures.items at (rw c.as_slice.ensures.value at c.in-Ok.ensures.text)) (rw c.clear-in-lines.ensures.items at (rw c.as_slice.ensures.value at c.in-Ok.ensures.errors)) in
     rw c.failed-in_default-tell_both.ensures (ended_all _ _ rb _ _ _ _ _ _ _ _ _ c.lines.invariant
@@ -38,7 +38,7 @@ returns-then-is_ended g c =
     let line = c.next_line.new.line.items in
     let rb = g.R.Read.remaining c.lines.reader in
     let rc = g.R.Read.remaining c.next_line.new.reader in
-    let read = reads_as _ c.lines.number c.in-Ok-true.field-0 true line rb rc c.log_limits-limits.ensures c.in-Ok-true.field-0-test c.in-Ok-true.ensures.read in
+    let read = reads_as _ c.lines.number c.in-Ok-true.field-0 true line rb rc c.of_log-limits.ensures c.in-Ok-true.field-0-test c.in-Ok-true.ensures.read in
     let seen = was_seen (line_seen c.args.options.now c.lines.picture c.lines.number line) c.take_line.new.self c.take_line.new.out.items c.take_line.new.told.items
     (rw c.as_slice.ensures.value at c.in-Ok.ensures.left) (rw c.clear.ensures.items at (rw c.as_slice.ensures.value at c.in-Ok.ensures.text)) (rw c.clear-in-lines.ensures.items at (rw c.as_slice.ensures.value at c.in-Ok.ensures.errors)) in
     ended_all _ _ rb _ _ _ _ _ _ _ _ _ c.lines.invariant
@@ -50,7 +50,7 @@ lines-preserved g c =
     let line = c.next_line.new.line.items in
     let rb = g.R.Read.remaining c.lines.reader in
     let rc = g.R.Read.remaining c.next_line.new.reader in
-    let read = reads_as _ c.lines.number c.in-Ok-true.field-0 true line rb rc c.log_limits-limits.ensures c.in-Ok-true.field-0-test c.in-Ok-true.ensures.read in
+    let read = reads_as _ c.lines.number c.in-Ok-true.field-0 true line rb rc c.of_log-limits.ensures c.in-Ok-true.field-0-test c.in-Ok-true.ensures.read in
     let seen = was_seen (line_seen c.args.options.now c.lines.picture c.lines.number line) c.take_line.new.self c.take_line.new.out.items c.take_line.new.told.items
     (rw c.as_slice.ensures.value at c.in-Ok.ensures.left) (rw c.clear.ensures.items at (rw c.as_slice.ensures.value at c.in-Ok.ensures.text)) (rw c.clear-in-lines.ensures.items at (rw c.as_slice.ensures.value at c.in-Ok.ensures.errors)) in
     at_next _ _ rb rc line _ _ _ _ _ _ _ _ _ c.lines.invariant read seen (sym c.is_ended.ensures ∙ c.if-is_ended.false)
