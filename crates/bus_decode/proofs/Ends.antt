@@ -2,10 +2,10 @@
 use Rattle.std.proofs.Common.{◌≡◌, inl, inr, ℕ, List, ◌++◌, Option, Some, None, Bool, true, false, refl, sym, ◌∙◌, ap, append_assoc, subst, IfSome}
 use Rattle.std.specs.Io.KnownBytes.{Appends, append_known}
 use Rattle.text_lines.specs.Known.{IsFront}
-use Rattle.script_commands.specs.declared.ending.Cause.{Cause}
-use Rattle.script_commands.specs.declared.ending.Cause.TheVariants as causes
-use Rattle.script_commands.specs.declared.ending.ScriptFault.{ScriptFault}
-use Rattle.script_commands.specs.declared.fault.Fault.{Fault}
+use Rattle.line_faults.specs.declared.ending.Cause.{Cause}
+use Rattle.line_faults.specs.declared.ending.Cause.TheVariants as causes
+use Rattle.line_faults.specs.declared.ending.ScriptFault.{ScriptFault}
+use Rattle.line_faults.specs.declared.fault.Fault.{Fault}
 use Rattle.line_runs.specs.Outcome as lines
 use Rattle.line_runs.specs.Ending as runs
 use Rattle.line_runs.specs.Limits.{log_limits}

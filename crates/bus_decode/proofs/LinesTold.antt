@@ -1,6 +1,6 @@
 -- A line that was taken tells the text that stands in the run, and nothing in a log.
 use Rattle.std.proofs.Common.{◌≡◌, List, [], ◌++◌, ℕ, Result, Ok, Err, sym, ◌∙◌, ap}
-use Rattle.script_commands.specs.declared.fault.Fault.{Fault}
+use Rattle.line_faults.specs.declared.fault.Fault.{Fault}
 use Rattle.line_runs.specs.Outcome as lines
 use Rattle.line_runs.specs.declared.running.Told.TheVariants.{Answered}
 use Rattle.log_courses.specs.Course.{more}

@@ -1,8 +1,8 @@
 -- How the reading of a log ended.
 use Rattle.std.specs.Prelude.{◌≡◌, ℕ, List, Option, Some, None, ⊤}
-use Rattle.script_commands.specs.declared.ending.Cause.{Cause}
-use Rattle.script_commands.specs.declared.ending.Cause.TheVariants as causes
-use Rattle.script_commands.specs.declared.ending.ScriptFault.{ScriptFault}
+use Rattle.line_faults.specs.declared.ending.Cause.{Cause}
+use Rattle.line_faults.specs.declared.ending.Cause.TheVariants as causes
+use Rattle.line_faults.specs.declared.ending.ScriptFault.{ScriptFault}
 use Rattle.line_runs.specs.Ending.{EndedBy}
 use Rattle.log_summary.specs.declared.counts.Counts.{Counts}
 use Rattle.log_summary.specs.declared.options.Options.{Options}

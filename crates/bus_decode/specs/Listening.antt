@@ -28,8 +28,8 @@ use Rattle.bus_decode.specs.declared.listener.Listener.{Listener}
 use Rattle.log_summary.specs.declared.options.Options.{Options}
 use Rattle.bus_decode.specs.declared.listening.LineError.{LineError}
 use Rattle.bus_decode.specs.declared.listening.LineError.TheVariants as errors
-use Rattle.script_commands.specs.declared.fault.Fault.{Fault}
-use Rattle.script_commands.specs.declared.fault.Fault.TheVariants.{NotLogLine}
+use Rattle.line_faults.specs.declared.fault.Fault.{Fault}
+use Rattle.line_faults.specs.declared.fault.Fault.TheVariants.{NotLogLine}
 
 -- nothing was heard
 abbrev pub first_listener : (most : ℕ) → Listener

@@ -1,9 +1,9 @@
 -- The outcome of a log: that of its lines up to its fault, or else of its lines and its end.
 use Rattle.std.specs.Prelude.{ℕ, List, [], ◌++◌, Some, None, Result, Ok, Err}
-use Rattle.script_commands.specs.declared.fault.Fault.{Fault}
-use Rattle.script_commands.specs.declared.fault.Fault.TheVariants.{NotLogLine}
-use Rattle.script_commands.specs.declared.fault.LineError.{LineError as ScriptError}
-use Rattle.script_commands.specs.declared.fault.LineError.TheVariants as script_errors
+use Rattle.line_faults.specs.declared.fault.Fault.{Fault}
+use Rattle.line_faults.specs.declared.fault.Fault.TheVariants.{NotLogLine}
+use Rattle.line_faults.specs.declared.fault.LineError.{LineError as ScriptError}
+use Rattle.line_faults.specs.declared.fault.LineError.TheVariants as script_errors
 use Rattle.line_runs.specs.Limits.{log_limits}
 use Rattle.line_runs.specs.Outcome as lines
 use Rattle.log_courses.specs.Course.{more}

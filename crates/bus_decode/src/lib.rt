@@ -9,6 +9,6 @@ mod running;
 mod taking;
 mod telling;
 
+pub use line_faults::{Cause, ScriptFault};
 pub use log_summary::{Counts, Options, Strays, Wanted};
 pub use running::{Decoded, run_decode};
-pub use script_commands::{Cause, ScriptFault};

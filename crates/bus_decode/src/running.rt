@@ -6,9 +6,9 @@ ghost use Rattle.bus_decode.specs.Ending.{EndsRun, Ended};
 
 use crate::listening::take_end;
 use crate::taking::{Run, number_behind};
+use line_faults::{Cause, ScriptFault};
 use line_runs::{Limits, run_lines, status_of};
 use log_summary::{Counts, Options};
-use script_commands::{Cause, ScriptFault};
 use std::alloc::Global;
 use std::io;
 use std::io::{BufRead, Write};

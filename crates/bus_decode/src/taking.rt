@@ -7,10 +7,10 @@ ghost use Rattle.bus_decode.specs.Outcome.{error_of};
 
 use crate::listener::Listener;
 use crate::listening::{LineError, take_line};
+use line_faults::{Fault, LineError as ScriptError};
 use line_runs::{Obeyer, Told};
 use log_summary::{Counts, Options};
 use log_text::Form;
-use script_commands::{Fault, LineError as ScriptError};
 use std::alloc::Global;
 
 /// A log that is read, up to its next line.

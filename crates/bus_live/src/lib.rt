@@ -4,7 +4,7 @@
 
 mod running;
 
+pub use line_faults::{Cause, ScriptFault};
 pub use running::run_live;
-pub use script_commands::{Cause, ScriptFault};
 pub use script_runs::{LiveFault, LiveRan};
 pub use segment_threads::Gate;

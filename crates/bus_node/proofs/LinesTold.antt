@@ -1,8 +1,8 @@
 -- A line that was obeyed tells the text that stands in the node, and nothing in a log.
 use Rattle.std.proofs.Common.{[], Result, Ok, Err, ap}
-use Rattle.script_commands.specs.declared.fault.Fault.{Fault}
-use Rattle.script_commands.specs.declared.fault.LineError.{LineError}
-use Rattle.script_commands.specs.declared.fault.LineError.TheVariants as errors
+use Rattle.line_faults.specs.declared.fault.Fault.{Fault}
+use Rattle.line_faults.specs.declared.fault.LineError.{LineError}
+use Rattle.line_faults.specs.declared.fault.LineError.TheVariants as errors
 use Rattle.line_runs.specs.Outcome as lines
 use Rattle.line_runs.specs.declared.running.Told.{Told}
 use Rattle.line_runs.specs.declared.running.Told.TheVariants.{Answered, NoMemory}

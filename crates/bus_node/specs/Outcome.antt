@@ -1,6 +1,6 @@
 -- The text of a node's input, line by line, up to its fault.
 use Rattle.std.specs.Prelude.{ℕ, ◌-◌, ◌^◌, List, [], Result, Ok, Err}
-use Rattle.script_commands.specs.declared.fault.Fault.{Fault}
+use Rattle.line_faults.specs.declared.fault.Fault.{Fault}
 use Rattle.line_runs.specs.Outcome as lines
 use Rattle.line_runs.specs.declared.limits.Limits.{Limits}
 use Rattle.bus_node.specs.LineCounts.{no_lines}

@@ -1,8 +1,8 @@
 -- Wrong lines.
 use Rattle.std.specs.Prelude.{ℕ, List, if◌then◌else◌, Result, Ok, Err}
-use Rattle.script_commands.specs.Ending.{fault_line}
-use Rattle.script_commands.specs.declared.ending.Cause.TheVariants as causes
-use Rattle.script_commands.specs.declared.fault.Fault.{Fault}
+use Rattle.line_faults.specs.Ending.{fault_line}
+use Rattle.line_faults.specs.declared.ending.Cause.TheVariants as causes
+use Rattle.line_faults.specs.declared.fault.Fault.{Fault}
 use Rattle.script_text.specs.Parts.{line}
 use Rattle.bus_node.specs.LineCounts.{with_wrong}
 use Rattle.bus_node.specs.Node.{Node, told}

@@ -5,9 +5,9 @@ ghost use Rattle.bus_node.specs.WrongLines.{wrong_seen};
 
 use crate::interfaces::shown_on;
 use crate::node::Node;
+use line_faults::{Fault, LineError};
 use line_runs::Told;
 use node_lines::{NodeLine, read_node_line};
-use script_commands::{Fault, LineError};
 use script_text::print_text;
 use std::alloc::{AllocError, Global};
 

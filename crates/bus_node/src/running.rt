@@ -6,8 +6,8 @@ ghost use Rattle.bus_node.specs.Ending.{Ended, Left};
 
 use crate::line_counts::LineCounts;
 use crate::node::Node;
+use line_faults::ScriptFault;
 use line_runs::{Limits, run_lines, status_of};
-use script_commands::ScriptFault;
 use std::alloc::Global;
 use std::io;
 use std::io::{BufRead, Write};

@@ -1,7 +1,7 @@
 //! The output of each line, which is the node's text.
 use crate::node::Node;
+use line_faults::LineError;
 use line_runs::{Obeyer, Told};
-use script_commands::LineError;
 use std::alloc::Global;
 
 impl Obeyer for Node {

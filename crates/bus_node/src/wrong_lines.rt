@@ -3,7 +3,7 @@ ghost use Rattle.std.specs.Prelude.{◌≡◌, true, OnOk};
 ghost use Rattle.bus_node.specs.WrongLines.{wrong_told};
 
 use crate::node::Node;
-use script_commands::{Cause, Fault, ScriptFault};
+use line_faults::{Cause, Fault, ScriptFault};
 use script_text::print_text;
 use std::alloc::AllocError;
 

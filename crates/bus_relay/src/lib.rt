@@ -11,7 +11,7 @@ mod settling;
 mod text;
 mod threads;
 
+pub use line_faults::{Cause, ScriptFault};
 pub use running::run_relay;
-pub use script_commands::{Cause, ScriptFault};
 pub use script_runs::{LiveFault as RelayFault, LiveRan as RelayRan};
 pub use segment_threads::Gate;

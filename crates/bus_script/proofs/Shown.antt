@@ -1,8 +1,8 @@
 -- A line whose telling is shown on an empty sheet.
 use Rattle.std.proofs.Common.{◌≡◌, ℕ, List, [], ◌++◌, Option, Result, Ok, Err, sym, ◌∙◌, ap}
 use Rattle.segment_law.specs.Segment.{Segment}
-use Rattle.script_commands.specs.declared.fault.LineError.{LineError}
-use Rattle.script_commands.specs.declared.fault.LineError.TheVariants as errors
+use Rattle.line_faults.specs.declared.fault.LineError.{LineError}
+use Rattle.line_faults.specs.declared.fault.LineError.TheVariants as errors
 use Rattle.line_runs.specs.Outcome as lines
 use Rattle.line_runs.specs.declared.running.Told.{Told}
 use Rattle.line_runs.specs.declared.running.Told.TheVariants.{Answered, NoMemory}

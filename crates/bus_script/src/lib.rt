@@ -13,8 +13,8 @@ mod script;
 mod sheet;
 mod whole;
 
+pub use line_faults::{Cause, Fault, ScriptFault};
 pub use line_runs::{Ran, Told};
 pub use running::{run_logged, run_script};
 pub use script::run_on;
-pub use script_commands::{Cause, Fault, ScriptFault};
 pub use sheet::Sheet;

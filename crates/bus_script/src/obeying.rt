@@ -6,8 +6,9 @@ ghost use Rattle.bus_script.specs.Script.{Obeyed, frame_put, made, called, drain
 use crate::draining::told_as;
 use crate::sheet::Sheet;
 use bus_frame::Frame;
+use line_faults::{Fault, LineError};
 use line_runs::Told;
-use script_commands::{Addresses, Command, Fault, LineError, is_ascii, read_command, split_words};
+use script_commands::{Addresses, Command, is_ascii, read_command, split_words};
 use segment_core::{Call, NewRefused, Refusal, Segment};
 use std::alloc::Global;
 

@@ -5,8 +5,8 @@ ghost use Rattle.bus_script.specs.Script.{outcome};
 
 use crate::obeying::obey_line;
 use crate::sheet::Sheet;
+use line_faults::LineError;
 use line_runs::{Limits, Obeyer, Ran, Told, run_lines};
-use script_commands::LineError;
 use segment_core::Segment;
 use std::alloc::Global;
 use std::io::{BufRead, Write};

@@ -5,9 +5,9 @@ ghost use Rattle.bus_script.specs.Draining.{telling_done};
 ghost use Rattle.bus_script.specs.Script.{Obeyed, told_of, drove};
 
 use bus_frame::Frame;
+use line_faults::LineError;
 use line_runs::Told;
 use pgn_ids::Address;
-use script_commands::LineError;
 use segment_core::{Counts, Refusal, Reply, Segment};
 use segment_drain::Drained;
 use std::alloc::AllocError;

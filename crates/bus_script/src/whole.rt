@@ -9,9 +9,9 @@ use crate::driven::{print_driven, print_parts};
 use crate::driving::told_at;
 use crate::sheet::Sheet;
 use bus_frame::Frame;
+use line_faults::LineError;
 use line_runs::Told;
 use pgn_ids::Address;
-use script_commands::LineError;
 use script_text::{
     print_counts, print_events, print_frames, print_put, print_refused, print_reply, print_text,
 };

@@ -10,8 +10,8 @@ use Rattle.text_lines.proofs.Known.{reads_held}
 use Rattle.text_lines.specs.Lines.{lines_of, before_feed, held_line, ReadsLineUpTo}
 use Rattle.text_lines.specs.declared.lines.LineRead.{LineRead}
 use Rattle.text_lines.specs.declared.lines.LineRead.TheVariants.{Line, TooLong}
-use Rattle.script_commands.specs.declared.fault.Fault.{Fault}
-use Rattle.script_commands.specs.declared.fault.Fault.TheVariants.{TooManyLines, LineTooLong}
+use Rattle.line_faults.specs.declared.fault.Fault.{Fault}
+use Rattle.line_faults.specs.declared.fault.Fault.TheVariants.{TooManyLines, LineTooLong}
 use Rattle.line_runs.specs.Limits.{limit_fault, above, IsAbove, Read}
 use Rattle.line_runs.specs.declared.limits.Limits.{Limits}
 

@@ -4,9 +4,9 @@ use Rattle.std.specs.Io.KnownBytes.{Appends, Keeps, append_known}
 use Rattle.text_lines.specs.Known.{Known, IsFront}
 use Rattle.text_lines.proofs.Known.{appends_keeps}
 use Rattle.text_lines.specs.Lines.{lines_of}
-use Rattle.script_commands.specs.declared.ending.Cause.{Cause}
-use Rattle.script_commands.specs.declared.ending.Cause.TheVariants as causes
-use Rattle.script_commands.specs.declared.fault.Fault.{Fault}
+use Rattle.line_faults.specs.declared.ending.Cause.{Cause}
+use Rattle.line_faults.specs.declared.ending.Cause.TheVariants as causes
+use Rattle.line_faults.specs.declared.fault.Fault.{Fault}
 use Rattle.line_runs.specs.Limits.{above, unless_above, Read}
 use Rattle.line_runs.specs.Outcome.{Steps, numbered_line, then_rest, outcome_from, outcome, state_after, left_from, left}
 use Rattle.line_runs.specs.Ending.{Ended, Left}

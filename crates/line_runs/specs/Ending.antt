@@ -2,9 +2,9 @@
 use Rattle.std.specs.Prelude.{◌≡◌, ◌⊎◌, ℕ, List, false, Option, Some, None, ◌==◌, if◌then◌else◌, ⊤}
 use Rattle.std.specs.Io.KnownBytes.{Appends}
 use Rattle.text_lines.specs.Known.{IsFront}
-use Rattle.script_commands.specs.declared.ending.Cause.{Cause}
-use Rattle.script_commands.specs.declared.ending.Cause.TheVariants as causes
-use Rattle.script_commands.specs.declared.ending.ScriptFault.{ScriptFault}
+use Rattle.line_faults.specs.declared.ending.Cause.{Cause}
+use Rattle.line_faults.specs.declared.ending.Cause.TheVariants as causes
+use Rattle.line_faults.specs.declared.ending.ScriptFault.{ScriptFault}
 use Rattle.line_runs.specs.Outcome.{Outcome}
 use Rattle.line_runs.specs.declared.running.Ran.{Ran}
 

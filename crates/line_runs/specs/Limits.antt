@@ -2,10 +2,10 @@
 use Rattle.std.specs.Prelude.{◌≡◌, ℕ, ◌-◌, ◌^◌, List, [], ◌∷◌, length, Bool, true, false, Option, Some, None, Result, Ok, Err, nat_lt, if◌then◌else◌, IfSome}
 use Rattle.text_lines.specs.Known.{Known}
 use Rattle.text_lines.specs.Lines.{lines_of}
-use Rattle.script_commands.specs.declared.ending.Cause.{Cause}
-use Rattle.script_commands.specs.declared.ending.Cause.TheVariants as causes
-use Rattle.script_commands.specs.declared.fault.Fault.{Fault}
-use Rattle.script_commands.specs.declared.fault.Fault.TheVariants.{TooManyLines, LineTooLong}
+use Rattle.line_faults.specs.declared.ending.Cause.{Cause}
+use Rattle.line_faults.specs.declared.ending.Cause.TheVariants as causes
+use Rattle.line_faults.specs.declared.fault.Fault.{Fault}
+use Rattle.line_faults.specs.declared.fault.Fault.TheVariants.{TooManyLines, LineTooLong}
 use Rattle.line_runs.specs.declared.limits.Limits.{Limits}
 
 -- the limits of a script

@@ -1,9 +1,9 @@
 -- The text of an input, line by line, up to its fault.
 use Rattle.std.specs.Prelude.{◌≡◌, ℕ, ◌+◌, List, [], ◌∷◌, ◌++◌, Bool, true, Option, Some, None, Result, Ok, Err}
 use Rattle.text_lines.specs.Lines.{lines_of}
-use Rattle.script_commands.specs.declared.fault.Fault.{Fault}
-use Rattle.script_commands.specs.declared.fault.LineError.{LineError}
-use Rattle.script_commands.specs.declared.fault.LineError.TheVariants as errors
+use Rattle.line_faults.specs.declared.fault.Fault.{Fault}
+use Rattle.line_faults.specs.declared.fault.LineError.{LineError}
+use Rattle.line_faults.specs.declared.fault.LineError.TheVariants as errors
 use Rattle.line_runs.specs.Limits.{above, unless_above}
 use Rattle.line_runs.specs.declared.limits.Limits.{Limits}
 use Rattle.line_runs.specs.declared.running.Told.{Told}

@@ -3,8 +3,8 @@ use Rattle.std.specs.Prelude.{◌≡◌, ℕ, ◌+◌, ◌≤◌, Bool, true, fa
 use Rattle.std.specs.Io.KnownBytes.{Appends, Keeps, append_known}
 use Rattle.text_lines.specs.Known.{Known, IsFront}
 use Rattle.text_lines.specs.Lines.{lines_of}
-use Rattle.script_commands.specs.declared.ending.Cause.{Cause}
-use Rattle.script_commands.specs.declared.ending.Cause.TheVariants as causes
+use Rattle.line_faults.specs.declared.ending.Cause.{Cause}
+use Rattle.line_faults.specs.declared.ending.Cause.TheVariants as causes
 use Rattle.line_runs.specs.Outcome.{Steps, Outcome, outcome_from, left_from}
 use Rattle.line_runs.specs.Ending.{EndedByCause, KeptByCause}
 use Rattle.line_runs.specs.declared.limits.Limits.{Limits}

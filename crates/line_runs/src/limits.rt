@@ -2,7 +2,7 @@
 ghost use Rattle.std.specs.Prelude.{◌≡◌, ◌≤◌, true, IfOk};
 ghost use Rattle.line_runs.specs.Limits.{script_limits, log_limits, limit_fault, Read};
 
-use script_commands::{Cause, Fault, read_cause};
+use line_faults::{Cause, Fault, read_cause};
 use std::io::BufRead;
 use text_lines::{LineRead, MAX_LINE, read_line_up_to};
 

@@ -1,8 +1,8 @@
 //! The lines of an input, obeyed one by one.
 ghost use Rattle.std.specs.Prelude.{◌≡◌, ◌<◌, ◌-◌, ◌^◌, true, Ok, Err, Some, List, ℕ, IfSome, ⊤};
 ghost use Rattle.std.specs.Io.KnownBytes.{Keeps};
-ghost use Rattle.script_commands.specs.declared.fault.Fault.{Fault};
-ghost use Rattle.script_commands.specs.declared.fault.LineError.TheVariants as errors;
+ghost use Rattle.line_faults.specs.declared.fault.Fault.{Fault};
+ghost use Rattle.line_faults.specs.declared.fault.LineError.TheVariants as errors;
 ghost use Rattle.line_runs.specs.Outcome.{Steps, Obeyed, or_refused, outcome, left};
 ghost use Rattle.line_runs.specs.Ending.{Ended, Left, Kept, IsLastCause, status_of};
 ghost use Rattle.line_runs.specs.declared.running.Told.TheVariants.{NoMemory};
@@ -10,7 +10,7 @@ ghost use Rattle.line_runs.specs.declared.running.Told.TheVariants.{NoMemory};
 use crate::limits::Limits;
 use crate::taking::{Run, take_next};
 use crate::telling::flush_told;
-use script_commands::{Cause, LineError, ScriptFault};
+use line_faults::{Cause, LineError, ScriptFault};
 use std::alloc::Global;
 use std::io::{BufRead, Write};
 

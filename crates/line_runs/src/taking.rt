@@ -6,7 +6,7 @@ ghost use Rattle.line_runs.specs.Taking.{Obeys, IsFlushedAfter, Takes, TakesBoth
 use crate::limits::{Limits, next_line};
 use crate::running::{Obeyer, Told};
 use crate::telling::{flush_told, tell_both};
-use script_commands::{Cause, cause_of};
+use line_faults::{Cause, cause_of};
 use std::alloc::Global;
 use std::io::{BufRead, ErrorKind, Write};
 use text_lines::held_line;

@@ -5,9 +5,9 @@ use Rattle.std.specs.Io.KnownBytes.{Appends, append_known}
 use Rattle.text_lines.specs.Known.{Known, IsFront}
 use Rattle.text_lines.specs.Lines.{lines_of}
 use Rattle.text_lines.proofs.Known.{front_none, appends_more, appends_front}
-use Rattle.script_commands.specs.declared.ending.Cause.{Cause}
-use Rattle.script_commands.specs.declared.ending.Cause.TheVariants as causes
-use Rattle.script_commands.specs.declared.fault.Fault.{Fault}
+use Rattle.line_faults.specs.declared.ending.Cause.{Cause}
+use Rattle.line_faults.specs.declared.ending.Cause.TheVariants as causes
+use Rattle.line_faults.specs.declared.fault.Fault.{Fault}
 use Rattle.line_runs.specs.Limits.{above, IsAbove, Read, log_limits}
 use Rattle.line_runs.specs.declared.limits.Limits.{Limits}
 use Rattle.log_drawing.specs.Packets.{closing}

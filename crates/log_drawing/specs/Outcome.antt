@@ -1,7 +1,7 @@
 -- What a log draws, line by line, up to its fault.
 use Rattle.std.specs.Prelude.{ℕ, ◌+◌, List, [], ◌∷◌, ◌++◌, Option, Some, None, if◌then◌else◌}
 use Rattle.text_lines.specs.Lines.{lines_of}
-use Rattle.script_commands.specs.declared.fault.Fault.{Fault}
+use Rattle.line_faults.specs.declared.fault.Fault.{Fault}
 use Rattle.line_runs.specs.Limits.{above, log_limits}
 use Rattle.log_drawing.specs.Packets.{closing}
 use Rattle.log_drawing.specs.Picture.{Step, first_picture, is_ended, line_seen}

@@ -5,8 +5,8 @@ use Rattle.std.specs.Str.{bytes_eq}
 use Rattle.pgn_ids.specs.Pgn.{is_pgn}
 use Rattle.segment_law.specs.declared.refusal.Refusal.TheVariants.{BadPgn}
 use Rattle.script_commands.specs.Values.{◌>>=◌, address_of, number_of, pgn_of, payload_of}
-use Rattle.script_commands.specs.declared.fault.Fault.{Fault}
-use Rattle.script_commands.specs.declared.fault.Fault.TheVariants.{WrongNumberOfWords, UnknownCommand}
+use Rattle.line_faults.specs.declared.fault.Fault.{Fault}
+use Rattle.line_faults.specs.declared.fault.Fault.TheVariants.{WrongNumberOfWords, UnknownCommand}
 use Rattle.node_lines.specs.declared.command.NodeCommand.{NodeCommand}
 use Rattle.node_lines.specs.declared.command.NodeCommand.TheVariants.{Send, Open, Close, Pause, Resume, Cancel, Missed, Counts, State, Refused}
 

@@ -8,8 +8,8 @@ use Rattle.log_text.specs.declared.line.LogLine.{LogLine}
 use Rattle.log_text.specs.declared.line.LogLine.TheVariants as logged
 use Rattle.script_commands.specs.Words.{is_ascii, words_of}
 use Rattle.script_commands.specs.Values.{◌>>=◌, or_bad}
-use Rattle.script_commands.specs.declared.fault.Fault.{Fault}
-use Rattle.script_commands.specs.declared.fault.Fault.TheVariants.{NotAscii, UnknownCommand, WrongNumberOfWords}
+use Rattle.line_faults.specs.declared.fault.Fault.{Fault}
+use Rattle.line_faults.specs.declared.fault.Fault.TheVariants.{NotAscii, UnknownCommand, WrongNumberOfWords}
 use Rattle.node_lines.specs.Commands.{command_of}
 use Rattle.node_lines.specs.declared.line.NodeLine.{NodeLine}
 use Rattle.node_lines.specs.declared.line.NodeLine.TheVariants.{Passed, Frame, Now, Command}

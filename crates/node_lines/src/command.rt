@@ -3,10 +3,10 @@ ghost use Rattle.script_commands.specs.Words.{texts};
 ghost use Rattle.script_commands.specs.Values.{Gives};
 ghost use Rattle.node_lines.specs.Commands.{send_of, open_of, close_of, pause_of, resume_of, cancel_of, missed_of, counts_of, state_of, command_of};
 
+use line_faults::{Fault, LineError};
 use message_events::Bytes;
 use pgn_ids::{Address, Pgn};
 use script_commands::values::{WRONG_NUMBER, address, bounded, is, number, payload, pgn};
-use script_commands::{Fault, LineError};
 use segment_law::Refusal;
 use std::alloc::Global;
 

@@ -6,9 +6,10 @@ ghost use Rattle.node_lines.specs.Lines.{now_of, words_meaning, has_bracket, nod
 
 use crate::command::{NodeCommand, read_node_command};
 use bus_frame::Frame;
+use line_faults::{Fault, LineError};
 use log_text::{Iface, LogLine, before_return, read_log_line, read_time};
 use script_commands::values::{WRONG_NUMBER, is};
-use script_commands::{Fault, LineError, is_ascii, split_words};
+use script_commands::{is_ascii, split_words};
 use std::alloc::Global;
 
 /// What a line asks for.

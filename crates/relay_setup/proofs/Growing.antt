@@ -9,8 +9,8 @@ use Rattle.script_commands.specs.Words.{is_ascii}
 use Rattle.script_commands.specs.Words.{words_of}
 use Rattle.script_commands.specs.Values.{◌>>=◌}
 use Rattle.script_commands.specs.Routes.{route_of}
-use Rattle.script_commands.specs.declared.fault.Fault.{Fault}
-use Rattle.script_commands.specs.declared.fault.Fault.TheVariants.{NoStations, UnknownCommand, NotAscii}
+use Rattle.line_faults.specs.declared.fault.Fault.{Fault}
+use Rattle.line_faults.specs.declared.fault.Fault.TheVariants.{NoStations, UnknownCommand, NotAscii}
 use Rattle.script_commands.specs.declared.route.RouteWords.{RouteWords}
 use Rattle.script_setup.specs.Plan as setup
 use Rattle.script_setup.specs.Plan.{Plan, CallsBelow}

@@ -1,7 +1,7 @@
 -- A step of the segment that is set up now is one of both.
 use Rattle.std.proofs.Common.{◌≡◌, ℕ, List, Result, Ok, Err, refl, ◌∙◌, ap, subst}
-use Rattle.script_commands.specs.declared.fault.LineError.{LineError}
-use Rattle.script_commands.specs.declared.fault.LineError.TheVariants as errors
+use Rattle.line_faults.specs.declared.fault.LineError.{LineError}
+use Rattle.line_faults.specs.declared.fault.LineError.TheVariants as errors
 use Rattle.script_setup.specs.Plan as setup
 use Rattle.script_setup.specs.Plan.{Plan}
 use Rattle.relay_setup.specs.declared.gateway.Routing.{Routing}

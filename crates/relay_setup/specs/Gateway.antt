@@ -16,9 +16,9 @@ use Rattle.script_commands.specs.Words.{words_of}
 use Rattle.script_commands.specs.Values.{◌>>=◌}
 use Rattle.script_commands.specs.Routes.{route_of}
 use Rattle.script_commands.specs.declared.route.RouteWords.{RouteWords}
-use Rattle.script_commands.specs.declared.fault.Fault.{Fault}
-use Rattle.script_commands.specs.declared.fault.Fault.TheVariants.{NotAscii, UnknownCommand, NoStations}
-use Rattle.script_commands.specs.declared.fault.LineError.{LineError}
+use Rattle.line_faults.specs.declared.fault.Fault.{Fault}
+use Rattle.line_faults.specs.declared.fault.Fault.TheVariants.{NotAscii, UnknownCommand, NoStations}
+use Rattle.line_faults.specs.declared.fault.LineError.{LineError}
 use Rattle.script_commands.specs.Words.{is_ascii}
 use Rattle.script_runs.specs.Reading as script
 use Rattle.script_runs.specs.Reading.{Grammar, Planned, planned_by}

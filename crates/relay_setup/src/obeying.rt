@@ -6,7 +6,8 @@ ghost use Rattle.relay_setup.specs.Gateway.{plans_of, with_second, Done, FewCall
 
 use crate::gateway::{Gateway, Routing};
 use crate::routing::route;
-use script_commands::{Fault, LineError, is_ascii, split_words};
+use line_faults::{Fault, LineError};
+use script_commands::{is_ascii, split_words};
 use std::alloc::Global;
 
 const UNKNOWN: LineError = LineError::Fault(Fault::UnknownCommand);

@@ -1,7 +1,7 @@
 //! What the lines of a script set up for two segments, line by line.
 use crate::gateway::Gateway;
 use crate::obeying::obey_line;
-use script_commands::{Fault, LineError};
+use line_faults::{Fault, LineError};
 use script_runs::Planner;
 use std::alloc::Global;
 

@@ -7,10 +7,11 @@ ghost use Rattle.script_setup.specs.Plan.{plan_of, port_of};
 ghost use Rattle.relay_setup.specs.Gateway.{plans_of, Done, routed_by, not_routed, passage_of, pgn_asked, pgn_of_port, port_pgn, count_to};
 
 use crate::gateway::{Gateway, Passage, Routing};
+use line_faults::{Fault, LineError};
 use live_segment::Inbox;
 use pgn_ids::{Address, Pgn};
 use port_table::PortId;
-use script_commands::{Fault, LineError, RouteWords, read_route};
+use script_commands::{RouteWords, read_route};
 use script_setup::{Message, Setup, Uncut};
 use segment_law::{Call, Refusal};
 use std::alloc::Global;

@@ -1,9 +1,10 @@
 //! The ways in which the lines of a case are read, and how what each means is shown.
 use crate::runs::{Runs, no_memory};
 use command_line::read_command_line;
+use line_faults::LineError;
 use log_text::{Form, form_of, read_line_as, read_log_line};
 use node_lines::read_node_line;
-use script_commands::{LineError, read_command, split_words};
+use script_commands::{read_command, split_words};
 use std::alloc::Global;
 use std::fmt::Debug;
 use std::io;

@@ -8,9 +8,9 @@ use Rattle.std.specs.Prelude.{option_map}
 use Rattle.text_digits.specs.Numerals.{pairs_of, pair_of}
 use Rattle.pgn_ids.specs.declared.address.Address.{Address}
 use Rattle.script_commands.specs.Values.{address_of, addresses_of, ◌>>=◌, Fails}
-use Rattle.script_commands.specs.declared.fault.Fault.{Fault}
-use Rattle.script_commands.specs.declared.fault.LineError.{LineError}
-use Rattle.script_commands.specs.declared.fault.LineError.TheVariants as errors
+use Rattle.line_faults.specs.declared.fault.Fault.{Fault}
+use Rattle.line_faults.specs.declared.fault.LineError.{LineError}
+use Rattle.line_faults.specs.declared.fault.LineError.TheVariants as errors
 
 abbrev pub with_addresses : List Address → Result (List Address) Fault → Result (List Address) Fault
 with_addresses front read = read >>= λ others. Ok (front ++ others)

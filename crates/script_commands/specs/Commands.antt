@@ -5,8 +5,8 @@ use Rattle.pgn_ids.specs.Pgn.{is_pgn}
 use Rattle.segment_law.specs.declared.call.Call.TheVariants as calls
 use Rattle.segment_law.specs.declared.refusal.Refusal.TheVariants.{IdTooLarge, DataTooLong, BadPgn}
 use Rattle.script_commands.specs.Values.{◌>>=◌, address_of, addresses_of, number_of, pgn_of, id_of, data_of, port_of, room_of, payload_of}
-use Rattle.script_commands.specs.declared.fault.Fault.{Fault}
-use Rattle.script_commands.specs.declared.fault.Fault.TheVariants.{WrongNumberOfWords, UnknownCommand}
+use Rattle.line_faults.specs.declared.fault.Fault.{Fault}
+use Rattle.line_faults.specs.declared.fault.Fault.TheVariants.{WrongNumberOfWords, UnknownCommand}
 use Rattle.script_commands.specs.declared.command.Command.{Command}
 use Rattle.script_commands.specs.declared.command.Command.TheVariants.{Stations, Call, Drive, Drain, Counts, Refused}
 

@@ -6,10 +6,10 @@ use Rattle.port_table.specs.declared.port.PortId.{PortId}
 use Rattle.tp_wire.specs.declared.constants.TheConstants.{ETP_MAX_SIZE}
 use Rattle.text_digits.specs.Numerals.{pairs_of}
 use Rattle.script_commands.specs.Words.{decimal_word, hex_word, dot_in}
-use Rattle.script_commands.specs.declared.fault.Fault.{Fault}
-use Rattle.script_commands.specs.declared.fault.Fault.TheVariants.{WrongNumberOfWords, BadWord}
-use Rattle.script_commands.specs.declared.fault.LineError.{LineError}
-use Rattle.script_commands.specs.declared.fault.LineError.TheVariants as errors
+use Rattle.line_faults.specs.declared.fault.Fault.{Fault}
+use Rattle.line_faults.specs.declared.fault.Fault.TheVariants.{WrongNumberOfWords, BadWord}
+use Rattle.line_faults.specs.declared.fault.LineError.{LineError}
+use Rattle.line_faults.specs.declared.fault.LineError.TheVariants as errors
 
 infixl 10 ◌>>=◌
 abbrev pub ◌>>=◌ : {A B : Type 0} → Result A Fault → (A → Result B Fault) → Result B Fault

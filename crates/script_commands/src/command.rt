@@ -4,11 +4,11 @@ ghost use Rattle.script_commands.specs.Values.{Gives};
 ghost use Rattle.script_commands.specs.Commands.{stations_of, open_of, close_of, send_of, pump_of, transmit_of, fire_of, tick_of, take_of, again_of, overrun_of, cancel_of, pause_of, resume_of, inject_of, drive_of, drain_of, counts_of, command_of, later_command_of};
 
 use crate::addresses::Addresses;
-use crate::fault::{Fault, LineError};
 use crate::values::{
     WRONG_NUMBER, address, addresses, bounded, data_word, id, is, number, payload, pgn, port, room,
 };
 use bus_frame::{CanId, Frame};
+use line_faults::{Fault, LineError};
 use pgn_ids::{Address, Pgn};
 use segment_law::{Call, Refusal};
 use std::alloc::Global;

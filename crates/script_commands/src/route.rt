@@ -3,8 +3,8 @@ ghost use Rattle.script_commands.specs.Words.{texts};
 ghost use Rattle.script_commands.specs.Values.{Gives};
 ghost use Rattle.script_commands.specs.Routes.{route_of};
 
-use crate::fault::LineError;
 use crate::values::{WRONG_NUMBER, address, port};
+use line_faults::LineError;
 use pgn_ids::Address;
 use port_table::PortId;
 

@@ -6,8 +6,8 @@ ghost use Rattle.script_commands.specs.Words.{texts};
 ghost use Rattle.script_commands.specs.Values.{Gives, address_of, addresses_of, bounded_word, number_of, pgn_of, id_of, data_of, port_of, room_of, payload_of, filling};
 
 use crate::addresses::Addresses;
-use crate::fault::{Fault, LineError};
 use crate::words::{data, decimal, hex, place_of_dot};
+use line_faults::{Fault, LineError};
 use message_events::Bytes;
 use pgn_ids::Address;
 use port_table::PortId;

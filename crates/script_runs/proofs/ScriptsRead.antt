@@ -5,12 +5,12 @@ use Rattle.text_lines.specs.Known.{Known}
 use Rattle.text_lines.specs.Lines.{lines_of}
 use Rattle.line_runs.specs.Limits.{script_limits, above, unless_above, IsAbove, Read}
 use Rattle.line_runs.specs.declared.limits.Limits.{Limits}
-use Rattle.script_commands.specs.Ending.{cause_of}
-use Rattle.script_commands.specs.declared.ending.Cause.{Cause}
-use Rattle.script_commands.specs.declared.ending.Cause.TheVariants as causes
-use Rattle.script_commands.specs.declared.fault.Fault.{Fault}
-use Rattle.script_commands.specs.declared.fault.LineError.{LineError}
-use Rattle.script_commands.specs.declared.fault.LineError.TheVariants as errors
+use Rattle.line_faults.specs.Ending.{cause_of}
+use Rattle.line_faults.specs.declared.ending.Cause.{Cause}
+use Rattle.line_faults.specs.declared.ending.Cause.TheVariants as causes
+use Rattle.line_faults.specs.declared.fault.Fault.{Fault}
+use Rattle.line_faults.specs.declared.fault.LineError.{LineError}
+use Rattle.line_faults.specs.declared.fault.LineError.TheVariants as errors
 use Rattle.script_runs.specs.Reading.{Grammar, Planned, planned_by, planned_from, then_rest, fault_at, numbered_line, Done, Begins, Grows, EachGrows, IsRead}
 
 pub all_of : (a b : List ℕ) → b ≡ a → Begins a b

@@ -3,9 +3,9 @@ use Rattle.std.proofs.Common.{◌≡◌, ℕ, List, [], ◌++◌, Bool, false, O
 use Rattle.std.proofs.lemmas.List.{append-nil}
 use Rattle.std.specs.Io.KnownBytes.{Appends}
 use Rattle.text_lines.specs.Known.{IsFront}
-use Rattle.script_commands.specs.declared.ending.Cause.{Cause}
-use Rattle.script_commands.specs.declared.ending.Cause.TheVariants as causes
-use Rattle.script_commands.specs.declared.ending.ScriptFault.{ScriptFault}
+use Rattle.line_faults.specs.declared.ending.Cause.{Cause}
+use Rattle.line_faults.specs.declared.ending.Cause.TheVariants as causes
+use Rattle.line_faults.specs.declared.ending.ScriptFault.{ScriptFault}
 use Rattle.script_runs.specs.Reading.{Planned, Begins, IsRead, IsCut}
 use Rattle.script_runs.specs.Ending.{EndedBy, EndedByCause, IsRefusedTold, IsRunTold, lost_fault}
 use Rattle.script_runs.specs.declared.ending.LiveRan.{LiveRan}

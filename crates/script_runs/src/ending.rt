@@ -3,7 +3,7 @@ ghost use Rattle.std.specs.Prelude.{◌≡◌, Some, false};
 ghost use Rattle.script_runs.specs.Ending.{live_fault_line, lost_fault, ended_by, failed_at, status_of};
 ghost use Rattle.script_runs.specs.declared.ending.Lost.TheVariants.{OutOfMemory};
 
-use script_commands::{Cause, ScriptFault};
+use line_faults::{Cause, ScriptFault};
 use std::alloc::AllocError;
 use std::fmt;
 

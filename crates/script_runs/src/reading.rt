@@ -3,8 +3,8 @@ ghost use Rattle.std.specs.Prelude.{◌≡◌, ℕ, Err, IfSome};
 ghost use Rattle.line_runs.specs.Limits.{script_limits};
 ghost use Rattle.script_runs.specs.Reading.{Grammar, planned_by, Done, IsRead, EachGrows, RoomAfter, RoomBefore};
 
+use line_faults::{Cause, Fault, LineError, ScriptFault, cause_of};
 use line_runs::{Limits, next_line};
-use script_commands::{Cause, Fault, LineError, ScriptFault, cause_of};
 use std::alloc::Global;
 use std::io::BufRead;
 

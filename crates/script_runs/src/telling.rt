@@ -2,7 +2,7 @@
 ghost use Rattle.script_runs.specs.Ending.{IsRefusedTold, IsRunTold};
 
 use crate::ending::{LiveRan, Lost, Told, failed, lost_by};
-use script_commands::{Cause, ScriptFault};
+use line_faults::{Cause, ScriptFault};
 use std::io::Write;
 use text_lines::tell;
 

@@ -17,8 +17,8 @@ use Rattle.script_commands.specs.Words.{is_ascii}
 use Rattle.script_commands.specs.Words.{words_of}
 use Rattle.script_commands.specs.Values.{◌>>=◌}
 use Rattle.script_commands.specs.Commands.{command_of}
-use Rattle.script_commands.specs.declared.fault.Fault.{Fault}
-use Rattle.script_commands.specs.declared.fault.Fault.TheVariants.{BadWord, NoStations, StationsTwice, UnknownCommand, NotAscii}
+use Rattle.line_faults.specs.declared.fault.Fault.{Fault}
+use Rattle.line_faults.specs.declared.fault.Fault.TheVariants.{BadWord, NoStations, StationsTwice, UnknownCommand, NotAscii}
 use Rattle.script_commands.specs.declared.command.Command.{Command}
 use Rattle.script_commands.specs.declared.command.Command.TheVariants as commands
 use Rattle.script_setup.specs.declared.setup.Message.{Message}

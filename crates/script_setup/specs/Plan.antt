@@ -21,9 +21,9 @@ use Rattle.live_record.specs.declared.calls.TheConstants.{MOST_CALLS}
 use Rattle.script_commands.specs.Words.{words_of}
 use Rattle.script_commands.specs.Values.{◌>>=◌}
 use Rattle.script_commands.specs.Commands.{command_of}
-use Rattle.script_commands.specs.declared.fault.Fault.{Fault}
-use Rattle.script_commands.specs.declared.fault.Fault.TheVariants.{NotAscii, UnknownCommand, BadWord, NoStations, StationsTwice}
-use Rattle.script_commands.specs.declared.fault.LineError.{LineError}
+use Rattle.line_faults.specs.declared.fault.Fault.{Fault}
+use Rattle.line_faults.specs.declared.fault.Fault.TheVariants.{NotAscii, UnknownCommand, BadWord, NoStations, StationsTwice}
+use Rattle.line_faults.specs.declared.fault.LineError.{LineError}
 use Rattle.script_commands.specs.declared.command.Command.{Command}
 use Rattle.script_commands.specs.declared.command.Command.TheVariants as commands
 use Rattle.script_commands.specs.Words.{is_ascii}

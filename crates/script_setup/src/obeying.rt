@@ -6,9 +6,10 @@ ghost use Rattle.script_setup.specs.Plan.{plan_of, Done, FewCalls, is_known, mad
 
 use crate::setup::{Message, Setup};
 use crate::uncut::Uncut;
+use line_faults::{Fault, LineError};
 use live_segment::NotMade;
 use pgn_ids::{Address, Pgn};
-use script_commands::{Command, Fault, LineError, is_ascii, read_command, split_words};
+use script_commands::{Command, is_ascii, read_command, split_words};
 use segment_law::{Call, Refusal};
 use segment_rings::submit_refusal;
 use std::alloc::Global;

@@ -1,7 +1,7 @@
 //! What the lines of a script set up, line by line.
 use crate::obeying::obey_line;
 use crate::setup::Setup;
-use script_commands::{Fault, LineError};
+use line_faults::{Fault, LineError};
 use script_runs::Planner;
 use std::alloc::Global;
 

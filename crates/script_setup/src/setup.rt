@@ -3,10 +3,10 @@ ghost use Rattle.std.specs.Prelude.{◌≡◌, IfOk, map};
 ghost use Rattle.script_setup.specs.Plan.{plan_of, first_plan, port_of, Done, refused_by};
 
 use crate::uncut::Uncut;
+use line_faults::LineError;
 use live_segment::{Bytes, Inbox};
 use pgn_ids::{Address, Pgn};
 use port_table::PortId;
-use script_commands::LineError;
 use script_text::print_refused;
 use segment_law::Refusal;
 use std::alloc::{AllocError, Global};

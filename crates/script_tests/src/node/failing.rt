@@ -2,9 +2,9 @@
 use crate::checks::{got, same};
 use crate::readers::Breaking;
 use bus_node::{LineCounts, Node, run_node};
+use line_faults::Cause;
 use log_text::Iface;
 use pgn_ids::Address;
-use script_commands::Cause;
 use std::alloc::Global;
 use std::io;
 use std::io::{BufReader, Error, ErrorKind, Write};

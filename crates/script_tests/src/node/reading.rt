@@ -1,8 +1,8 @@
 //! Lines read one after another, up to a reader that fails.
 use crate::checks::{got, holds};
 use crate::readers::Breaking;
+use line_faults::Cause;
 use line_runs::{Limits, next_line};
-use script_commands::Cause;
 use std::io::{BufRead, BufReader};
 use std::process::Abort;
 

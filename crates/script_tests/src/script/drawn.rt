@@ -1,8 +1,8 @@
 //! Scripts and logs that are drawn, and readers and writers that fail.
 use crate::checks::{got, holds, same};
 use crate::readers::Breaking;
+use line_faults::Cause;
 use log_drawing::{Drawn, Options, draw_log};
-use script_commands::Cause;
 use script_drawing::draw_script;
 use std::alloc::Global;
 use std::io;

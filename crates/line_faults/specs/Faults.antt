@@ -1,7 +1,7 @@
 -- What is wrong with a line of a script or a log.
 use Rattle.std.specs.Prelude.{ℕ, List, codes}
-use Rattle.script_commands.specs.declared.fault.Fault.{Fault}
-use Rattle.script_commands.specs.declared.fault.Fault.TheVariants.{TooManyLines, LineTooLong, NotLogLine, NotAscii, UnknownCommand, WrongNumberOfWords, BadWord, NoStations, StationsTwice}
+use Rattle.line_faults.specs.declared.fault.Fault.{Fault}
+use Rattle.line_faults.specs.declared.fault.Fault.TheVariants.{TooManyLines, LineTooLong, NotLogLine, NotAscii, UnknownCommand, WrongNumberOfWords, BadWord, NoStations, StationsTwice}
 
 abbrev pub fault_text : Fault → List ℕ
 fault_text TooManyLines = codes "too many lines"

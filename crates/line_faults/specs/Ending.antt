@@ -1,14 +1,14 @@
 -- Why a script or a log ended before its end.
 use Rattle.std.specs.Prelude.{ℕ, List, ◌++◌, codes}
 use Rattle.std.specs.Fmt.{decimal}
-use Rattle.script_commands.specs.Faults.{fault_text}
-use Rattle.script_commands.specs.declared.fault.LineError.{LineError}
-use Rattle.script_commands.specs.declared.fault.LineError.TheVariants as errors
+use Rattle.line_faults.specs.Faults.{fault_text}
+use Rattle.line_faults.specs.declared.fault.LineError.{LineError}
+use Rattle.line_faults.specs.declared.fault.LineError.TheVariants as errors
 use Rattle.text_lines.specs.declared.lines.ReadError.{ReadError}
 use Rattle.text_lines.specs.declared.lines.ReadError.TheVariants as reads
-use Rattle.script_commands.specs.declared.ending.Cause.{Cause}
-use Rattle.script_commands.specs.declared.ending.Cause.TheVariants as causes
-use Rattle.script_commands.specs.declared.ending.ScriptFault.{ScriptFault}
+use Rattle.line_faults.specs.declared.ending.Cause.{Cause}
+use Rattle.line_faults.specs.declared.ending.Cause.TheVariants as causes
+use Rattle.line_faults.specs.declared.ending.ScriptFault.{ScriptFault}
 
 -- why a line ends a script or a log
 abbrev pub cause_of : LineError → Cause

@@ -1,6 +1,6 @@
 //! The line at which a script or a log ended before its end, and why.
 ghost use Rattle.std.specs.Prelude.{◌≡◌, Some};
-ghost use Rattle.script_commands.specs.Ending.{cause_of, read_cause, fault_line};
+ghost use Rattle.line_faults.specs.Ending.{cause_of, read_cause, fault_line};
 
 use crate::fault::{Fault, LineError};
 use std::fmt;

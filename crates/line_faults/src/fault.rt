@@ -1,7 +1,7 @@
 //! What is wrong with a line of a script or a log.
 ghost use Rattle.std.specs.Prelude.{◌≡◌, Some};
-ghost use Rattle.script_commands.specs.Faults.{fault_text};
-ghost use Rattle.script_commands.specs.declared.fault.LineError.TheVariants.{OutOfMemory};
+ghost use Rattle.line_faults.specs.Faults.{fault_text};
+ghost use Rattle.line_faults.specs.declared.fault.LineError.TheVariants.{OutOfMemory};
 
 use std::alloc::{AllocError, AllocFailed};
 use std::fmt;
