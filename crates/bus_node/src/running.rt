@@ -17,7 +17,7 @@ use std::io::{BufRead, Write};
 const MAX_LINE: usize = 234_881_100;
 
 /// How a run ended.
-#[derive(Clone, Copy, Debug, PartialEq, Eq)]
+#[derive(Clone, Copy)]
 pub struct Ran {
     /// Why it ended before the end of the input, if it did.
     pub fault: Option<ScriptFault>,

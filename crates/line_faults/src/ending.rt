@@ -20,7 +20,7 @@ pub enum Cause {
 }
 
 /// The line at which a script or a log ended before its end, and why. Lines count from 1.
-#[derive(Clone, Copy, Debug, PartialEq, Eq)]
+#[derive(Clone, Copy)]
 pub struct ScriptFault {
     pub line: u64,
     pub cause: Cause,

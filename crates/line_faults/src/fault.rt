@@ -29,26 +29,33 @@ pub enum Fault {
     StationsTwice,
 }
 
+/// What is wrong, in words.
+fn fault_text(fault: Fault) -> &'static str
+    ensures { result.now ≡ fault_text fault }
+{
+    match fault {
+        Fault::TooManyLines => "too many lines",
+        Fault::LineTooLong => "line too long",
+        Fault::NotLogLine => "not a log line",
+        Fault::NotAscii => "not ASCII",
+        Fault::UnknownCommand => "unknown command",
+        Fault::WrongNumberOfWords => "wrong number of words",
+        Fault::BadWord => "bad word",
+        Fault::NoStations => "no stations",
+        Fault::StationsTwice => "stations twice",
+    }
+}
+
 impl fmt::Display for Fault {
     ghost output = { λ f. Some (fault_text f) };
 
     fn fmt<W: fmt::Write>(&self, f: &mut fmt::Formatter<W>) -> fmt::Result {
-        match self {
-            Fault::TooManyLines => write!(f, "too many lines"),
-            Fault::LineTooLong => write!(f, "line too long"),
-            Fault::NotLogLine => write!(f, "not a log line"),
-            Fault::NotAscii => write!(f, "not ASCII"),
-            Fault::UnknownCommand => write!(f, "unknown command"),
-            Fault::WrongNumberOfWords => write!(f, "wrong number of words"),
-            Fault::BadWord => write!(f, "bad word"),
-            Fault::NoStations => write!(f, "no stations"),
-            Fault::StationsTwice => write!(f, "stations twice"),
-        }
+        f.write_str(fault_text(*self))
     }
 }
 
 /// Why a line means no command, or isn't obeyed.
-#[derive(Clone, Copy, Debug, PartialEq, Eq)]
+#[derive(Clone, Copy)]
 pub enum LineError {
     /// Memory was refused.
     OutOfMemory,

@@ -7,7 +7,7 @@ use std::io::BufRead;
 use text_lines::{LineRead, MAX_LINE, read_line_up_to};
 
 /// The most lines that an input may have, and the most bytes that a line may have.
-#[derive(Clone, Copy, Debug, PartialEq, Eq)]
+#[derive(Clone, Copy)]
 pub struct Limits {
     pub lines: u64,
     pub bytes: usize,

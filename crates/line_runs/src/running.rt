@@ -15,7 +15,7 @@ use std::alloc::Global;
 use std::io::{BufRead, Write};
 
 /// How a run ended.
-#[derive(Clone, Copy, Debug, PartialEq, Eq)]
+#[derive(Clone, Copy)]
 pub struct Ran {
     /// Why it ended before the end of the input, if it did.
     pub fault: Option<ScriptFault>,
@@ -44,7 +44,7 @@ impl Ran {
 }
 
 /// How a line was obeyed.
-#[derive(Clone, Copy, Debug, PartialEq, Eq)]
+#[derive(Clone, Copy)]
 pub enum Told {
     /// The line's text is there.
     Answered,

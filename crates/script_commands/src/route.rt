@@ -9,7 +9,7 @@ use pgn_ids::Address;
 use port_table::PortId;
 
 /// Messages that a port of the first segment is given are sent from one address to another on the second.
-#[derive(Clone, Copy, Debug, PartialEq, Eq)]
+#[derive(Clone, Copy)]
 pub struct RouteWords {
     pub port: PortId,
     pub from: Address,

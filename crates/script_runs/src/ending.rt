@@ -8,7 +8,7 @@ use std::alloc::AllocError;
 use std::fmt;
 
 /// Why a run ended before its end.
-#[derive(Clone, Copy, Debug, PartialEq, Eq)]
+#[derive(Clone, Copy)]
 pub enum LiveFault {
     /// As a script ends; a fault behind its last line has line 0.
     Script(ScriptFault),
@@ -17,7 +17,7 @@ pub enum LiveFault {
 }
 
 /// How a run ended: before its end, by a fault; or else with all messages done, unless the turns ran out.
-#[derive(Clone, Copy, Debug, PartialEq, Eq)]
+#[derive(Clone, Copy)]
 pub struct LiveRan {
     pub fault: Option<LiveFault>,
     pub ran_out: bool,
