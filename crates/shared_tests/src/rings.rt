@@ -1,4 +1,5 @@
-//! Both ends of each ring on one thread: each call on its happy path, full and empty rings, and places that are free again.
+//! Both ends of each ring on one thread, step by step: each call on its happy path, full and empty rings, and places that are free again. The
+//! steps of a test are a table, which one function plays: a table needs no proof, and each call in a test does.
 ghost use Rattle.std.specs.Prelude.{◌≡◌};
 
 use crate::calls::*;
@@ -56,13 +57,52 @@ fn again(rt: &impl Abort, alloc: Global, delivery: &Delivery) -> Delivery
     }
 }
 
-// Submits nine bytes to 35, which is accepted with this ticket.
-fn submits(rt: &impl Abort, alloc: Global, client: &mut Client, ticket: u64) {
-    let answer = submitted(rt, client, RECEIVER, FECA, nine(rt, alloc));
-    same(rt, got(rt, answer), ticket);
+/// What is done with a client of 21 and its seat, or is seen of them. Messages are nine bytes to 35.
+enum Step {
+    /// A message is submitted, and has this ticket.
+    Submit(u64),
+    /// The same with the tickets from 1 up to this one.
+    SubmitUpTo(u64),
+    /// So many bytes for this destination and PGN are handed back for this cause.
+    Refuse(Address, u32, u8, Refusal),
+    /// The front message is taken.
+    Take,
+    /// No message waits.
+    Nothing,
+    /// A note of this ticket is made, or the ring of notes has no place.
+    Note(u64, bool),
+    /// The same with the tickets from 1 up to this one.
+    NoteUpTo(u64),
+    /// The client reads the note of this ticket, or none.
+    Read(Option<u64>),
+    /// None comes while the client waits.
+    Wait,
+    /// The seat was closed, and then a note is made.
+    NoteAfterEnd(u64),
+    Close,
+    Cut,
+    /// The submissions of the client: how many aren't kept any more, and how many are.
+    Submitted(u64, usize),
+    /// The same of the notes that it read.
+    WasRead(u64, usize),
+    /// The same of the notes that the seat made.
+    Notes(u64, usize),
+    /// How many messages were taken.
+    Taken(u64),
 }
 
-// Submits bytes, which are handed back for this cause.
+// What is submitted is answered so: a ticket, or a cause, with the bytes.
+fn submits(rt: &impl Abort, alloc: Global, client: &mut Client, ticket: u64) -> bool {
+    let answer = submitted(rt, client, RECEIVER, FECA, nine(rt, alloc));
+    got(rt, answer) == ticket
+}
+
+fn submits_all(rt: &impl Abort, alloc: Global, client: &mut Client, last: u64) {
+    for ticket in 1..=last {
+        holds(rt, submits(rt, alloc, client, ticket));
+    }
+}
+
 fn is_refused(
     rt: &impl Abort,
     client: &mut Client,
@@ -70,23 +110,12 @@ fn is_refused(
     pgn: u32,
     bytes: Bytes,
     cause: Refusal,
-) {
+) -> bool {
     let len = bytes.len();
-    let answer = submitted(rt, client, to, pgn, bytes).err();
-    let refused = got(rt, answer.ok_or("submitted"));
-    same(rt, refused.refusal, Some(cause));
-    same(rt, refused.bytes.len(), len);
-}
-
-// Gives one delivery if the ring has a place, and returns whether it had.
-fn give_one(rt: &impl Abort, alloc: Global, door: &mut Door) -> bool {
-    let pushed = delivery(rt, alloc);
-    let kept = again(rt, alloc, &pushed);
-    if !got(rt, door.prepare(1)) {
-        return false;
+    match submitted(rt, client, to, pgn, bytes) {
+        Ok(_) => false,
+        Err(refused) => refused.refusal == Some(cause) && refused.bytes.len() == len,
     }
-    door.give(pushed, kept);
-    true
 }
 
 // A client of the sender with this number, and its seat.
@@ -120,71 +149,147 @@ fn note_one(rt: &impl Abort, seat: &mut Seat, ticket: u64) -> bool {
     }
 }
 
-// The steps of a test are functions of their own, which own nothing. What a test owns is carried through the proof of each step in the
-// test itself, which took twice as long.
-fn takes_nine(rt: &impl Abort, seat: &mut Seat) {
-    let submission = got(rt, take_one(seat).ok_or("nothing waits"));
-    is_submitted(rt, &submission);
-    drop(submission);
+fn takes_nine(seat: &mut Seat) -> bool {
+    match take_one(seat) {
+        Some(submission) => is_submitted(&submission),
+        None => false,
+    }
 }
 
-fn is_submitted(rt: &impl Abort, submission: &Submission) {
-    same(rt, submission.to, RECEIVER);
-    same(rt, submission.pgn.raw(), FECA);
-    holds(rt, submission.bytes.as_slice() == NINE.as_slice());
+fn is_submitted(submission: &Submission) -> bool {
+    submission.to == RECEIVER
+        && submission.pgn.raw() == FECA
+        && submission.bytes.as_slice() == NINE.as_slice()
+}
+
+fn notes_all(rt: &impl Abort, seat: &mut Seat, last: u64) {
+    for ticket in 1..=last {
+        holds(rt, note_one(rt, seat, ticket));
+    }
+}
+
+// Closes a seat with room for a note and a submission waiting, and then makes the note.
+fn note_after_the_end(rt: &impl Abort, seat: &mut Seat, ticket: u64) -> bool {
+    match seat.offer(0) {
+        Offer::Ready => {
+            got(rt, seat.reserve(1));
+            seat.close();
+            seat.note(note_of(ticket));
+            true
+        }
+        Offer::Empty | Offer::Owed => false,
+    }
+}
+
+fn reads(rt: &impl Abort, client: &mut Client, ticket: &Option<u64>) -> bool {
+    let note = match ticket {
+        Some(ticket) => Some(note_of(*ticket)),
+        None => None,
+    };
+    got(rt, client.try_outcome()) == note
+}
+
+fn closes(seat: &mut Seat) -> bool {
+    let before = seat.is_active();
+    seat.close();
+    before && !seat.is_active()
+}
+
+// Whether a step does, or shows, what it says.
+fn is_so(
+    rt: &(impl Abort + Wait),
+    alloc: Global,
+    seat: &mut Seat,
+    client: &mut Client,
+    step: &Step,
+) -> bool {
+    match step {
+        Step::Submit(ticket) => submits(rt, alloc, client, *ticket),
+        Step::SubmitUpTo(last) => {
+            submits_all(rt, alloc, client, *last);
+            true
+        }
+        Step::Refuse(to, pgn, many, cause) => {
+            is_refused(rt, client, *to, *pgn, bytes(rt, alloc, 1, *many), *cause)
+        }
+        Step::Take => takes_nine(seat),
+        Step::Nothing => seat.offer(0) == Offer::Empty,
+        Step::Note(ticket, has_place) => note_one(rt, seat, *ticket) == *has_place,
+        Step::NoteUpTo(last) => {
+            notes_all(rt, seat, *last);
+            true
+        }
+        Step::Read(ticket) => reads(rt, client, ticket),
+        Step::Wait => got(rt, client.outcome(rt, 2)).is_none(),
+        Step::NoteAfterEnd(ticket) => note_after_the_end(rt, seat, *ticket),
+        Step::Close => closes(seat),
+        Step::Cut => {
+            seat.cut();
+            true
+        }
+        Step::Submitted(gone, kept) => {
+            client.submitted_gone() == *gone && client.submitted().len() == *kept
+        }
+        Step::WasRead(gone, kept) => client.read_gone() == *gone && client.read().len() == *kept,
+        Step::Notes(gone, kept) => seat.notes_gone() == *gone && seat.notes().len() == *kept,
+        Step::Taken(messages) => seat.taken() == *messages,
+    }
+}
+
+// Ends the test at the first step that isn't so, and prints its place in the table.
+fn play(
+    rt: &(impl Abort + Wait),
+    alloc: Global,
+    seat: &mut Seat,
+    client: &mut Client,
+    steps: &[Step],
+) {
+    for (place, step) in steps.iter().enumerate() {
+        let so = is_so(rt, alloc, seat, client, step);
+        same(rt, (place, so), (place, true));
+    }
 }
 
 fn are_of_the_sender(rt: &impl Abort, seat: &Seat, client: &Client) {
-    same(rt, client.id(), 3);
-    same(rt, seat.id(), 3);
-    same(rt, client.station(), SENDER);
-    same(rt, seat.station(), SENDER);
+    same(rt, (client.id(), seat.id()), (3, 3));
+    same(rt, (client.station(), seat.station()), (SENDER, SENDER));
 }
 
-fn reads(rt: &impl Abort, client: &mut Client, expected: Option<Note>) {
-    same(rt, got(rt, client.try_outcome()), expected);
-}
-
-fn are_counted(rt: &impl Abort, seat: &Seat, client: &Client) {
-    same(rt, seat.taken(), 1);
-    same(rt, client.submitted().len(), 1);
-    same(rt, client.read().len(), 1);
-    same(rt, seat.notes().len(), 1);
-}
-
-fn closes(rt: &impl Abort, seat: &mut Seat) {
-    holds(rt, seat.is_active());
-    seat.close();
-    holds(rt, !seat.is_active());
-}
-
-fn take_and_read(rt: &(impl Abort + Wait), alloc: Global, seat: &mut Seat, client: &mut Client) {
-    are_of_the_sender(rt, seat, client);
-    holds(rt, take_one(seat).is_none());
-    submits(rt, alloc, client, 1);
-    holds(rt, note_one(rt, seat, 1));
-    takes_nine(rt, seat);
-    reads(rt, client, Some(note_of(1)));
-    same(rt, got(rt, client.outcome(rt, 2)), None);
-    are_counted(rt, seat, client);
-    closes(rt, seat);
-}
-
-#[test]
-fn a_submission_is_taken_and_its_note_is_read(rt: HostRuntime) {
-    let (mut seat, mut client) = seated(&rt, rt.alloc(), 3);
-    take_and_read(&rt, rt.alloc(), &mut seat, &mut client);
+// A new client and its seat do all this.
+fn does(rt: &(impl Abort + Wait), alloc: Global, steps: &[Step]) {
+    let (mut seat, mut client) = seated(rt, alloc, 3);
+    are_of_the_sender(rt, &seat, &client);
+    play(rt, alloc, &mut seat, &mut client, steps);
     drop(seat);
     drop(client);
 }
 
+const TAKEN_AND_READ: [Step; 11] = [
+    Step::Nothing,
+    Step::Submit(1),
+    Step::Note(1, true),
+    Step::Take,
+    Step::Read(Some(1)),
+    Step::Wait,
+    Step::Taken(1),
+    Step::Submitted(0, 1),
+    Step::WasRead(0, 1),
+    Step::Notes(0, 1),
+    Step::Close,
+];
+
+#[test]
+fn a_submission_is_taken_and_its_note_is_read(rt: HostRuntime) {
+    does(&rt, rt.alloc(), &TAKEN_AND_READ);
+}
+
 // The seat knows of the submission once it has looked.
 fn rings_once(rt: &impl Abort, alloc: Global, bell: &Bell, seat: &mut Seat, client: &mut Client) {
-    same(rt, bell.count(), 0);
-    submits(rt, alloc, client, 1);
-    same(rt, bell.count(), 1);
-    holds(rt, !seat.sees());
-    holds(rt, seat.offer(0) == Offer::Ready);
+    let before = bell.count();
+    holds(rt, submits(rt, alloc, client, 1));
+    same(rt, (before, bell.count()), (0, 1));
+    let seen = seat.sees();
+    holds(rt, !seen && seat.offer(0) == Offer::Ready);
     holds(rt, seat.sees());
 }
 
@@ -199,96 +304,77 @@ fn a_submission_rings_the_bell(rt: HostRuntime) {
     drop(bell);
 }
 
-// Closes a seat with room for a note and a submission waiting, and then makes the note.
-fn note_after_the_end(rt: &impl Abort, seat: &mut Seat) {
-    match seat.offer(0) {
-        Offer::Ready => {
-            got(rt, seat.reserve(1));
-            seat.close();
-            seat.note(note_of(1));
-        }
-        Offer::Empty | Offer::Owed => panic!(rt; "nothing waits"),
-    }
-}
-
-fn close_and_note(rt: &impl Abort, alloc: Global, seat: &mut Seat, client: &mut Client) {
-    submits(rt, alloc, client, 1);
-    note_after_the_end(rt, seat);
-    reads(rt, client, None);
-    same(rt, seat.notes().len(), 1);
-}
+const NOTED_AFTER_THE_END: [Step; 4] = [
+    Step::Submit(1),
+    Step::NoteAfterEnd(1),
+    Step::Read(None),
+    Step::Notes(0, 1),
+];
 
 #[test]
 fn a_note_after_the_end_goes_into_no_ring(rt: HostRuntime) {
-    let (mut seat, mut client) = seated(&rt, rt.alloc(), 0);
-    close_and_note(&rt, rt.alloc(), &mut seat, &mut client);
-    drop(seat);
-    drop(client);
+    does(&rt, rt.alloc(), &NOTED_AFTER_THE_END);
 }
 
-// Messages that aren't to be sent: the destination, the PGN, how many bytes, and why.
-const UNSENDABLE: [(Address, u32, u8, Refusal); 4] = [
-    (Address::NULL, 0xEC21, 9, Refusal::BadPgn),
-    (Address::NULL, FECA, 9, Refusal::NoSuchStation),
-    (SENDER, FECA, 9, Refusal::SameStation),
-    (RECEIVER, FECA, 0, Refusal::TooShort),
+const NOT_TO_BE_SENT: [Step; 5] = [
+    Step::Refuse(Address::NULL, 0xEC21, 9, Refusal::BadPgn),
+    Step::Refuse(Address::NULL, FECA, 9, Refusal::NoSuchStation),
+    Step::Refuse(SENDER, FECA, 9, Refusal::SameStation),
+    Step::Refuse(RECEIVER, FECA, 0, Refusal::TooShort),
+    Step::Submitted(0, 0),
 ];
-
-fn refuse(rt: &impl Abort, alloc: Global, client: &mut Client) {
-    for (to, pgn, many, cause) in &UNSENDABLE {
-        is_refused(rt, client, *to, *pgn, bytes(rt, alloc, 1, *many), *cause);
-    }
-    same(rt, client.submitted().len(), 0);
-}
 
 #[test]
 fn what_is_not_to_be_sent_comes_back(rt: HostRuntime) {
-    let (seat, mut client) = seated(&rt, rt.alloc(), 0);
-    refuse(&rt, rt.alloc(), &mut client);
-    drop(seat);
-    drop(client);
+    does(&rt, rt.alloc(), &NOT_TO_BE_SENT);
 }
 
-fn fill_submissions(rt: &impl Abort, alloc: Global, seat: &mut Seat, client: &mut Client) {
-    for ticket in 1..65u64 {
-        submits(rt, alloc, client, ticket);
-    }
-    is_refused(
-        rt,
-        client,
-        RECEIVER,
-        FECA,
-        nine(rt, alloc),
-        Refusal::RingFull,
-    );
-    takes_nine(rt, seat);
-    submits(rt, alloc, client, 65);
-}
+const FULL_OF_SUBMISSIONS: [Step; 4] = [
+    Step::SubmitUpTo(64),
+    Step::Refuse(RECEIVER, FECA, 9, Refusal::RingFull),
+    Step::Take,
+    Step::Submit(65),
+];
+
+const FULL_OF_NOTES: [Step; 5] = [
+    Step::Submit(1),
+    Step::NoteUpTo(64),
+    Step::Note(65, false),
+    Step::Read(Some(1)),
+    Step::Note(65, true),
+];
 
 #[test]
-fn a_full_ring_of_submissions_has_a_place_again(rt: HostRuntime) {
-    let (mut seat, mut client) = seated(&rt, rt.alloc(), 0);
-    fill_submissions(&rt, rt.alloc(), &mut seat, &mut client);
-    drop(seat);
-    drop(client);
+fn a_full_ring_has_a_place_again(rt: HostRuntime) {
+    does(&rt, rt.alloc(), &FULL_OF_SUBMISSIONS);
+    does(&rt, rt.alloc(), &FULL_OF_NOTES);
 }
 
-fn fill_notes(rt: &impl Abort, alloc: Global, seat: &mut Seat, client: &mut Client) {
-    submits(rt, alloc, client, 1);
-    for ticket in 1..65u64 {
-        holds(rt, note_one(rt, seat, ticket));
-    }
-    holds(rt, !note_one(rt, seat, 65));
-    reads(rt, client, Some(note_of(1)));
-    holds(rt, note_one(rt, seat, 65));
-}
+// One of two submissions is taken, and one of two notes is read, before the cut. The client looks up what it keeps at its next calls, and
+// it counts on from all that it submitted. A client that is gone reads nothing more, and its seat keeps its notes.
+const CUT: [Step; 17] = [
+    Step::Submit(1),
+    Step::Submit(2),
+    Step::Note(1, true),
+    Step::Note(2, true),
+    Step::Take,
+    Step::Read(Some(1)),
+    Step::Cut,
+    Step::Notes(1, 1),
+    Step::Submitted(0, 2),
+    Step::WasRead(0, 1),
+    Step::Submit(3),
+    Step::Read(Some(2)),
+    Step::Submitted(1, 2),
+    Step::WasRead(1, 1),
+    Step::Close,
+    Step::Cut,
+    Step::Notes(1, 1),
+];
 
 #[test]
-fn a_full_ring_of_notes_has_a_place_again(rt: HostRuntime) {
-    let (mut seat, mut client) = seated(&rt, rt.alloc(), 0);
-    fill_notes(&rt, rt.alloc(), &mut seat, &mut client);
-    drop(seat);
-    drop(client);
+fn a_cut_keeps_the_unread_notes_and_the_submissions_in_the_ring(rt: HostRuntime) {
+    does(&rt, rt.alloc(), &CUT);
 }
 
 const PORT: PortId = PortId {
@@ -296,160 +382,167 @@ const PORT: PortId = PortId {
     number: 1,
 };
 
-// The front delivery is nine bytes of 21.
-fn receives_nine(rt: &(impl Abort + Wait), inbox: &mut Inbox) {
-    let came = got(rt, inbox.receive(rt, 2));
-    let given = got(rt, came.ok_or("nothing came"));
-    is_given(rt, &given);
-    drop(given);
+/// What is done with the inbox of a port and its door, or is seen of them. Deliveries are nine bytes of 21.
+enum Passage {
+    /// A delivery is given, or the ring has no place or no reader.
+    Give(bool),
+    /// So many deliveries are given.
+    GiveMany(usize),
+    /// The front delivery is received, or there is none.
+    Receive(bool),
+    Cut,
+    /// The inbox is closed, with a delivery that was left.
+    CloseInbox,
+    CloseDoor,
+    /// The deliveries of the door: how many aren't kept any more, and how many are.
+    Given(u64, usize),
+    /// The same of those that the inbox received.
+    Received(u64, usize),
 }
 
-fn is_given(rt: &impl Abort, given: &Delivery) {
-    same(rt, given.from, SENDER);
-    same(rt, given.to, RECEIVER);
-    same(rt, given.pgn.raw(), FECA);
-    holds(rt, given.bytes.as_slice() == NINE.as_slice());
+// Gives one delivery if the ring has a place, and returns whether it had.
+fn give_one(rt: &impl Abort, alloc: Global, door: &mut Door) -> bool {
+    let pushed = delivery(rt, alloc);
+    let kept = again(rt, alloc, &pushed);
+    if !got(rt, door.prepare(1)) {
+        return false;
+    }
+    door.give(pushed, kept);
+    true
 }
 
-fn receives_nothing(rt: &impl Abort, inbox: &mut Inbox) {
-    holds(rt, got(rt, inbox.try_receive()).is_none());
-}
-
-fn are_of_the_port(rt: &impl Abort, door: &Door, inbox: &Inbox) {
-    same(rt, door.port(), PORT);
-    same(rt, inbox.port(), PORT);
-}
-
-fn fill_deliveries(rt: &(impl Abort + Wait), alloc: Global, door: &mut Door, inbox: &mut Inbox) {
-    are_of_the_port(rt, door, inbox);
-    receives_nothing(rt, inbox);
-    for _ in 0..64 {
+fn gives_many(rt: &impl Abort, alloc: Global, door: &mut Door, many: usize) {
+    for _ in 0..many {
         holds(rt, give_one(rt, alloc, door));
     }
-    holds(rt, !give_one(rt, alloc, door));
-    receives_nine(rt, inbox);
-    holds(rt, give_one(rt, alloc, door));
-    same(rt, door.deliveries().len(), 65);
-    same(rt, inbox.received().len(), 1);
 }
 
-#[test]
-fn a_full_ring_of_deliveries_has_a_place_again(rt: HostRuntime) {
-    let (mut door, mut inbox) = got(&rt, Doorway::new(rt.alloc())).open(PORT);
-    fill_deliveries(&rt, rt.alloc(), &mut door, &mut inbox);
-    drop(door);
-    drop(inbox);
+// Whether the front delivery is nine bytes of 21.
+fn receives_nine(rt: &(impl Abort + Wait), inbox: &mut Inbox) -> bool {
+    match got(rt, inbox.receive(rt, 2)) {
+        Some(given) => is_given(&given),
+        None => false,
+    }
+}
+
+fn is_given(given: &Delivery) -> bool {
+    given.from == SENDER
+        && given.to == RECEIVER
+        && given.pgn.raw() == FECA
+        && given.bytes.as_slice() == NINE.as_slice()
 }
 
 // Closes an inbox, and gives it one delivery as the rest that was left.
-fn close_with_rest(rt: &impl Abort, alloc: Global, inbox: &mut Inbox) {
+fn closes_inbox(rt: &impl Abort, alloc: Global, inbox: &mut Inbox) -> bool {
     got(rt, inbox.reserve(1));
     let rest = got(rt, vec![in alloc; delivery(rt, alloc)]);
     inbox.close(rest);
+    inbox.is_closed()
 }
 
-fn closes_door(rt: &impl Abort, alloc: Global, door: &mut Door) {
-    holds(rt, door.is_active());
+fn closes_door(door: &mut Door) -> bool {
+    let before = door.is_active();
     door.close();
-    holds(rt, !door.is_active());
-    holds(rt, !give_one(rt, alloc, door));
+    before && !door.is_active()
 }
 
-fn close_both(rt: &impl Abort, alloc: Global, door: &mut Door, inbox: &mut Inbox) {
-    holds(rt, give_one(rt, alloc, door));
-    close_with_rest(rt, alloc, inbox);
-    holds(rt, inbox.is_closed());
-    same(rt, inbox.received().len(), 1);
-    receives_nothing(rt, inbox);
-    closes_door(rt, alloc, door);
+// Whether a step does, or shows, what it says.
+fn passes(
+    rt: &(impl Abort + Wait),
+    alloc: Global,
+    door: &mut Door,
+    inbox: &mut Inbox,
+    step: &Passage,
+) -> bool {
+    match step {
+        Passage::Give(has_place) => give_one(rt, alloc, door) == *has_place,
+        Passage::GiveMany(many) => {
+            gives_many(rt, alloc, door, *many);
+            true
+        }
+        Passage::Receive(true) => receives_nine(rt, inbox),
+        Passage::Receive(false) => got(rt, inbox.try_receive()).is_none(),
+        Passage::Cut => {
+            door.cut();
+            true
+        }
+        Passage::CloseInbox => closes_inbox(rt, alloc, inbox),
+        Passage::CloseDoor => closes_door(door),
+        Passage::Given(gone, kept) => door.gone() == *gone && door.deliveries().len() == *kept,
+        Passage::Received(gone, kept) => {
+            inbox.gone() == *gone && inbox.received().len() == *kept
+        }
+    }
 }
+
+fn play_passages(
+    rt: &(impl Abort + Wait),
+    alloc: Global,
+    door: &mut Door,
+    inbox: &mut Inbox,
+    steps: &[Passage],
+) {
+    same(rt, (door.port(), inbox.port()), (PORT, PORT));
+    for (place, step) in steps.iter().enumerate() {
+        let so = passes(rt, alloc, door, inbox, step);
+        same(rt, (place, so), (place, true));
+    }
+}
+
+// A new door and its inbox do all this.
+fn passes_all(rt: &(impl Abort + Wait), alloc: Global, steps: &[Passage]) {
+    let (mut door, mut inbox) = got(rt, Doorway::new(alloc)).open(PORT);
+    play_passages(rt, alloc, &mut door, &mut inbox, steps);
+    drop(door);
+    drop(inbox);
+}
+
+const FULL: [Passage; 7] = [
+    Passage::Receive(false),
+    Passage::GiveMany(64),
+    Passage::Give(false),
+    Passage::Receive(true),
+    Passage::Give(true),
+    Passage::Given(0, 65),
+    Passage::Received(0, 1),
+];
+
+#[test]
+fn a_full_ring_of_deliveries_has_a_place_again(rt: HostRuntime) {
+    passes_all(&rt, rt.alloc(), &FULL);
+}
+
+const CLOSED: [Passage; 6] = [
+    Passage::Give(true),
+    Passage::CloseInbox,
+    Passage::Received(0, 1),
+    Passage::Receive(false),
+    Passage::CloseDoor,
+    Passage::Give(false),
+];
 
 #[test]
 fn a_closed_inbox_gives_nothing(rt: HostRuntime) {
-    let (mut door, mut inbox) = got(&rt, Doorway::new(rt.alloc())).open(PORT);
-    close_both(&rt, rt.alloc(), &mut door, &mut inbox);
-    drop(door);
-    drop(inbox);
-}
-
-// How many of the first items aren't kept any more, and how many are kept.
-fn door_keeps(rt: &impl Abort, door: &Door, gone: u64, kept: usize) {
-    same(rt, door.gone(), gone);
-    same(rt, door.deliveries().len(), kept);
-}
-
-fn inbox_keeps(rt: &impl Abort, inbox: &Inbox, gone: u64, kept: usize) {
-    same(rt, inbox.gone(), gone);
-    same(rt, inbox.received().len(), kept);
+    passes_all(&rt, rt.alloc(), &CLOSED);
 }
 
 // Two of three deliveries are unread at the first cut, and none at the second.
-fn cut_a_door(rt: &(impl Abort + Wait), alloc: Global, door: &mut Door, inbox: &mut Inbox) {
-    for _ in 0..3 {
-        holds(rt, give_one(rt, alloc, door));
-    }
-    receives_nine(rt, inbox);
-    door.cut();
-    door_keeps(rt, door, 1, 2);
-    inbox_keeps(rt, inbox, 0, 1);
-    receives_nine(rt, inbox);
-    inbox_keeps(rt, inbox, 1, 1);
-    receives_nine(rt, inbox);
-    door.cut();
-    door_keeps(rt, door, 3, 0);
-    receives_nothing(rt, inbox);
-    inbox_keeps(rt, inbox, 3, 0);
-}
+const CUT_TWICE: [Passage; 12] = [
+    Passage::GiveMany(3),
+    Passage::Receive(true),
+    Passage::Cut,
+    Passage::Given(1, 2),
+    Passage::Received(0, 1),
+    Passage::Receive(true),
+    Passage::Received(1, 1),
+    Passage::Receive(true),
+    Passage::Cut,
+    Passage::Given(3, 0),
+    Passage::Receive(false),
+    Passage::Received(3, 0),
+];
 
 #[test]
 fn a_cut_keeps_the_unread_deliveries(rt: HostRuntime) {
-    let (mut door, mut inbox) = got(&rt, Doorway::new(rt.alloc())).open(PORT);
-    cut_a_door(&rt, rt.alloc(), &mut door, &mut inbox);
-    drop(door);
-    drop(inbox);
-}
-
-fn seat_keeps(rt: &impl Abort, seat: &Seat, gone: u64, kept: usize) {
-    same(rt, seat.notes_gone(), gone);
-    same(rt, seat.notes().len(), kept);
-}
-
-fn client_keeps(rt: &impl Abort, client: &Client, submitted: (u64, usize), read: (u64, usize)) {
-    same(rt, client.submitted_gone(), submitted.0);
-    same(rt, client.submitted().len(), submitted.1);
-    same(rt, client.read_gone(), read.0);
-    same(rt, client.read().len(), read.1);
-}
-
-// One of two submissions is taken, and one of two notes is read, before the cut. The client looks up what it keeps at its next calls, and
-// it counts on from all that it submitted.
-fn cut_a_seat(rt: &impl Abort, alloc: Global, seat: &mut Seat, client: &mut Client) {
-    submits(rt, alloc, client, 1);
-    submits(rt, alloc, client, 2);
-    holds(rt, note_one(rt, seat, 1));
-    holds(rt, note_one(rt, seat, 2));
-    takes_nine(rt, seat);
-    reads(rt, client, Some(note_of(1)));
-    seat.cut();
-    seat_keeps(rt, seat, 1, 1);
-    client_keeps(rt, client, (0, 2), (0, 1));
-    submits(rt, alloc, client, 3);
-    reads(rt, client, Some(note_of(2)));
-    client_keeps(rt, client, (1, 2), (1, 1));
-}
-
-// A client that is gone reads nothing more, and its seat keeps its notes.
-fn cut_a_closed_seat(rt: &impl Abort, seat: &mut Seat) {
-    closes(rt, seat);
-    seat.cut();
-    seat_keeps(rt, seat, 1, 1);
-}
-
-#[test]
-fn a_cut_keeps_the_unread_notes_and_the_submissions_in_the_ring(rt: HostRuntime) {
-    let (mut seat, mut client) = seated(&rt, rt.alloc(), 0);
-    cut_a_seat(&rt, rt.alloc(), &mut seat, &mut client);
-    cut_a_closed_seat(&rt, &mut seat);
-    drop(seat);
-    drop(client);
+    passes_all(&rt, rt.alloc(), &CUT_TWICE);
 }

@@ -5,14 +5,16 @@ mod limits;
 mod memory;
 mod news;
 mod pieces;
+mod played;
 mod steps;
 mod threads;
 mod worker_calls;
 
 use pgn_ids::Address;
+use played::*;
 use segment_shared::{
-    Accepted, Client, Gate, Inbox, Live, NotDetached, NotMade, PortId, Refusal, Reply,
-    SharedSegment, WorkerCall, bus_worker, client_agrees, finish, inbox_agrees,
+    Accepted, Client, Gate, Inbox, Live, Refusal, Reply, SharedSegment, WorkerCall, bus_worker,
+    finish,
 };
 use std::alloc::Global;
 use std::process::Abort;
@@ -20,188 +22,79 @@ use std::sync::Wait;
 use steps::*;
 use tp_wire::Outcome;
 
-// No client is attached at a station, for this cause, which is found without memory.
-fn is_unattached(rt: &impl Abort, live: &mut Live, station: Address, cause: Refusal) {
-    same(
-        rt,
-        live.attach(station).err(),
-        Some(NotMade::Refused(cause)),
-    );
-}
-
-fn fill_clients(rt: &impl Abort, live: &mut Live) {
-    for _ in 0..15 {
-        drop(client(rt, live, A));
-    }
-    is_unattached(rt, live, A, Refusal::ClientsFull);
-    is_unattached(rt, live, Address(0x50), Refusal::NoSuchStation);
-}
-
-fn fill_submissions(rt: &impl Abort, alloc: Global, first: &mut Client) {
-    for ticket in 1..65u64 {
-        same(rt, submit(rt, first, R, alloc), ticket);
-    }
-    let answer = submitted(rt, first, R, FECA, bytes(rt, alloc, 1, 9)).err();
-    let refused = got(rt, answer.ok_or("accepted"));
-    same(rt, refused.refusal, Some(Refusal::RingFull));
-    same(rt, refused.bytes.len(), 9);
-}
-
-fn fill_both(rt: &impl Abort, alloc: Global, live: &mut Live) {
-    let mut first = client(rt, live, A);
-    fill_clients(rt, live);
-    fill_submissions(rt, alloc, &mut first);
-    drop(first);
-}
+// With the client that is there already, 16 of 21.
+const FULL_OF_CLIENTS: [Step; 19] = [
+    Step::Attach,
+    Step::Attach,
+    Step::Attach,
+    Step::Attach,
+    Step::Attach,
+    Step::Attach,
+    Step::Attach,
+    Step::Attach,
+    Step::Attach,
+    Step::Attach,
+    Step::Attach,
+    Step::Attach,
+    Step::Attach,
+    Step::Attach,
+    Step::Attach,
+    Step::Unattached(A, Refusal::ClientsFull),
+    Step::Unattached(Address(0x50), Refusal::NoSuchStation),
+    Step::SubmitUpTo(64),
+    Step::Full,
+];
 
 #[test]
 fn clients_and_submissions_are_limited(rt: HostRuntime) {
-    let mut live = three(&rt, rt.alloc());
-    fill_both(&rt, rt.alloc(), &mut live);
-    drop(live);
+    does(&rt, rt.alloc(), &FULL_OF_CLIENTS);
 }
 
 // A client that is detached is looked at no more, but keeps what it had.
-fn detach(rt: &impl Abort, alloc: Global, live: &mut Live, first: &mut Client) {
-    submit(rt, first, R, alloc);
-    same(rt, live.detach(first.id()), Ok(()));
-    same(rt, live.detach(first.id()), Err(NotDetached::Gone));
-    same(rt, live.detach(16), Err(NotDetached::NoSuchClient));
-    same(rt, accept(rt, live, first), Accepted::Empty);
-    holds(rt, client_agrees(live, first));
-}
-
-fn take_its_place(rt: &impl Abort, alloc: Global, live: &mut Live) {
-    let mut first = client(rt, live, A);
-    fill_clients(rt, live);
-    detach(rt, alloc, live, &mut first);
-    drop(client(rt, live, A));
-    is_unattached(rt, live, A, Refusal::ClientsFull);
-    drop(first);
-}
+const DETACHED: [Step; 21] = [
+    Step::Attach,
+    Step::Attach,
+    Step::Attach,
+    Step::Attach,
+    Step::Attach,
+    Step::Attach,
+    Step::Attach,
+    Step::Attach,
+    Step::Attach,
+    Step::Attach,
+    Step::Attach,
+    Step::Attach,
+    Step::Attach,
+    Step::Attach,
+    Step::Attach,
+    Step::Submit(R),
+    Step::Detach,
+    Step::Accept(Accepted::Empty),
+    Step::Agree,
+    Step::Attach,
+    Step::Unattached(A, Refusal::ClientsFull),
+];
 
 #[test]
 fn a_detached_client_makes_room_for_another(rt: HostRuntime) {
-    let mut live = three(&rt, rt.alloc());
-    take_its_place(&rt, rt.alloc(), &mut live);
-    drop(live);
+    does(&rt, rt.alloc(), &DETACHED);
 }
 
-// The third one comes while the second one is known, and waits to be seen.
-fn submit_between_turns(rt: &impl Abort, alloc: Global, live: &mut Live, first: &mut Client) {
-    submit(rt, first, R, alloc);
-    submit(rt, first, R, alloc);
-    live.station_turn(A);
-    submit(rt, first, R, alloc);
-    live.station_turn(A);
-    live.station_turn(A);
-    // A turn that finds no memory leaves its submission to the next one.
-    live.station_turn(A);
-    same(rt, accept(rt, live, first), Accepted::Empty);
-}
-
-fn attach_and_submit(rt: &impl Abort, alloc: Global, live: &mut Live) {
-    let mut first = client(rt, live, A);
-    submit_between_turns(rt, alloc, live, &mut first);
-    drop(first);
-}
+// The third one comes while the second one is known, and waits to be seen. A turn that finds no memory leaves its submission to the next one.
+const ACCEPTED_IN_TURNS: [Step; 8] = [
+    Step::Submit(R),
+    Step::Submit(R),
+    Step::Turn(A),
+    Step::Submit(R),
+    Step::Turn(A),
+    Step::Turn(A),
+    Step::Turn(A),
+    Step::Accept(Accepted::Empty),
+];
 
 #[test]
 fn each_submission_is_accepted_in_some_turn(rt: HostRuntime) {
-    let mut live = three(&rt, rt.alloc());
-    attach_and_submit(&rt, rt.alloc(), &mut live);
-    drop(live);
-}
-
-// What the port was given is received after its closing.
-fn close_by_port(
-    rt: &impl Abort,
-    alloc: Global,
-    live: &mut Live,
-    inbox: &mut Inbox,
-    first: &mut Client,
-) {
-    submit(rt, first, R, alloc);
-    same(rt, accept(rt, live, first), Accepted::Sent(1));
-    exchange(rt, live);
-    holds(rt, !inbox.is_shut());
-    let other = PortId {
-        station: R,
-        number: 99,
-    };
-    same(
-        rt,
-        live.close_port(other),
-        Err(NotMade::Refused(Refusal::NoSuchPort)),
-    );
-    same(rt, live.close_port(inbox.port()), Ok(()));
-    holds(rt, inbox.is_shut());
-    holds(rt, receive(rt, inbox));
-    holds(rt, !receive(rt, inbox));
-    holds(rt, inbox_agrees(live, inbox));
-}
-
-fn open_and_close_by_port(rt: &impl Abort, alloc: Global, live: &mut Live) {
-    let (mut inbox, mut first) = port_and_client(rt, live);
-    close_by_port(rt, alloc, live, &mut inbox, &mut first);
-    drop(inbox);
-    drop(first);
-}
-
-#[test]
-fn a_port_is_closed_without_its_inbox(rt: HostRuntime) {
-    let mut live = three(&rt, rt.alloc());
-    open_and_close_by_port(&rt, rt.alloc(), &mut live);
-    drop(live);
-}
-
-fn is_noted(rt: &impl Abort, first: &mut Client) {
-    let note = got(rt, note(rt, first).ok_or("no note"));
-    same(rt, note.ticket, 1);
-    same(rt, note.outcome, Outcome::Acknowledged);
-}
-
-fn send_and_close(
-    rt: &impl Abort,
-    alloc: Global,
-    live: &mut Live,
-    inbox: &mut Inbox,
-    first: &mut Client,
-) {
-    for _ in 0..64 {
-        submit(rt, first, R, alloc);
-    }
-    same(rt, accept(rt, live, first), Accepted::Sent(1));
-    exchange(rt, live);
-    is_noted(rt, first);
-    same(rt, close(rt, live, inbox), Ok(1));
-    same(rt, close(rt, live, inbox), Ok(0));
-    holds(rt, !receive(rt, inbox));
-}
-
-fn send_close_and_leave(rt: &impl Abort, alloc: Global, live: &mut Live) {
-    let (mut inbox, mut first) = port_and_client(rt, live);
-    send_and_close(rt, alloc, live, &mut inbox, &mut first);
-    let left = Left {
-        clients: 1,
-        submissions: 63,
-        notes: 0,
-        inboxes: 1,
-        deliveries: 0,
-    };
-    leaves(rt, alloc, live, got(rt, vec![in alloc; first]), inbox, left);
-}
-
-fn leave_nobody(rt: &impl Abort, alloc: Global, live: &mut Live) {
-    send_close_and_leave(rt, alloc, live);
-    same(rt, got(rt, live.accept(0)), Accepted::Empty);
-}
-
-#[test]
-fn what_is_left_is_reported(rt: HostRuntime) {
-    let mut live = three(&rt, rt.alloc());
-    leave_nobody(&rt, rt.alloc(), &mut live);
-    drop(live);
+    does(&rt, rt.alloc(), &ACCEPTED_IN_TURNS);
 }
 
 // The calls that give 35 the message of 21, and let 21 take its end acknowledgement.
@@ -230,6 +123,69 @@ fn exchange(rt: &impl Abort, live: &mut Live) {
         events = events.saturating_add(made(rt, live, *call));
     }
     same(rt, events, 2);
+}
+
+const SENT: [Step; 2] = [Step::SubmitUpTo(64), Step::Accept(Accepted::Sent(1))];
+
+// What the port was given is received after its closing.
+const CLOSED_BY_PORT: [Step; 7] = [
+    Step::Shut(false),
+    Step::NoPort(99),
+    Step::ClosePort,
+    Step::Shut(true),
+    Step::Receive(true),
+    Step::Receive(false),
+    Step::Agree,
+];
+
+fn send_and_close_by_port(rt: &impl Abort, alloc: Global, live: &mut Live) {
+    let (mut inbox, mut first) = port_and_client(rt, live);
+    play(rt, alloc, live, &mut inbox, &mut first, &SENT);
+    exchange(rt, live);
+    play(rt, alloc, live, &mut inbox, &mut first, &CLOSED_BY_PORT);
+    drop(inbox);
+    drop(first);
+}
+
+#[test]
+fn a_port_is_closed_without_its_inbox(rt: HostRuntime) {
+    let mut live = three(&rt, rt.alloc());
+    send_and_close_by_port(&rt, rt.alloc(), &mut live);
+    drop(live);
+}
+
+const NOTED_AND_CLOSED: [Step; 4] = [
+    Step::Note(1, Outcome::Acknowledged),
+    Step::Close(Ok(1)),
+    Step::Close(Ok(0)),
+    Step::Receive(false),
+];
+
+fn send_close_and_leave(rt: &impl Abort, alloc: Global, live: &mut Live) {
+    let (mut inbox, mut first) = port_and_client(rt, live);
+    play(rt, alloc, live, &mut inbox, &mut first, &SENT);
+    exchange(rt, live);
+    play(rt, alloc, live, &mut inbox, &mut first, &NOTED_AND_CLOSED);
+    let left = Left {
+        clients: 1,
+        submissions: 63,
+        notes: 0,
+        inboxes: 1,
+        deliveries: 0,
+    };
+    leaves(rt, alloc, live, got(rt, vec![in alloc; first]), inbox, left);
+}
+
+fn leave_nobody(rt: &impl Abort, alloc: Global, live: &mut Live) {
+    send_close_and_leave(rt, alloc, live);
+    same(rt, got(rt, live.accept(0)), Accepted::Empty);
+}
+
+#[test]
+fn what_is_left_is_reported(rt: HostRuntime) {
+    let mut live = three(&rt, rt.alloc());
+    leave_nobody(&rt, rt.alloc(), &mut live);
+    drop(live);
 }
 
 // A frame of 21 and one of 22 wait.

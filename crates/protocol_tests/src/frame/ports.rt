@@ -1,3 +1,5 @@
+//! The ports of a station, step by step. The steps of a test are a table, which one function plays: a table needs no proof, and each call in a
+//! test does.
 use crate::checks::{got, holds, same};
 use pgn_ids::{Address, Pgn};
 use port_table::*;
@@ -6,184 +8,225 @@ use std::process::Abort;
 
 const STATION: Address = Address(0x35);
 
-fn shows(rt: &impl Abort, set: &PortSet, numbers: &[u64]) {
-    same(rt, set.numbers(), numbers);
-    same(rt, set.len(), numbers.len());
-    same(rt, set.is_empty(), numbers.is_empty());
-    same(rt, set.get(0), numbers.first().copied());
-    for number in set.iter() {
-        holds(rt, set.contains(*number));
-    }
+const FECA: u32 = 0xFECA;
+
+/// What is done with the ports of a station, or is seen of them.
+enum Step {
+    /// A port of FECA for messages of up to so many bytes is opened: its number, or why it isn't.
+    Open(u32, Result<u64, Refused>),
+    Close(u64, Result<(), Refused>),
+    Pause(u64, Result<(), Refused>),
+    Resume(u64, Result<(), Refused>),
+    /// The ports that a message of this PGN and so many bytes is given to.
+    Find(u32, u32, [Option<u64>; 3]),
+    /// A port of FECA that takes 1,785 bytes, by its number, and whether it is paused.
+    Port(u64, bool),
+    /// A port that isn't open.
+    NoPort(u64),
+    /// Whether one of the ports for nine bytes of FECA is paused.
+    AnyPaused(bool),
+    /// How many are open.
+    Count(usize),
 }
 
-// Calls whose result alone a test looks at: their contracts are not carried through it.
 fn new_table(rt: &impl Abort, alloc: Global) -> PortTable {
     got(rt, PortTable::new(alloc, STATION))
+}
+
+fn find(rt: &impl Abort, table: &PortTable, pgn: u32, len: u32) -> PortSet {
+    table.find(got(rt, Pgn::new(pgn)), len)
 }
 
 fn opens(
     rt: &impl Abort,
     table: &mut PortTable,
-    pgn: Pgn,
     max_len: u32,
-    expected: Result<u64, Refused>,
-) {
-    let opened = table.open(pgn, max_len);
-    let expected = match expected {
-        Ok(number) => Ok(PortId {
-            station: STATION,
-            number,
-        }),
-        Err(cause) => Err(cause),
+    expected: &Result<u64, Refused>,
+) -> bool {
+    match table.open(got(rt, Pgn::new(FECA)), max_len) {
+        Ok(port) => port.station == STATION && Ok(port.number) == *expected,
+        Err(cause) => Err(cause) == *expected,
+    }
+}
+
+// Whether they are just these ports, in this order.
+fn are(set: &PortSet, numbers: &[Option<u64>; 3]) -> bool {
+    let places = [set.get(0), set.get(1), set.get(2)];
+    places == *numbers
+        && set.numbers().first().copied() == numbers[0]
+        && set.is_empty() == numbers[0].is_none()
+        && set.get(set.len()).is_none()
+        && (set.len() == 3) == numbers[2].is_some()
+}
+
+fn is_port(rt: &impl Abort, table: &PortTable, number: u64, paused: bool) -> bool {
+    let port = Port {
+        number,
+        pgn: got(rt, Pgn::new(FECA)),
+        max_len: 1785,
+        paused,
     };
-    holds(rt, opened == expected);
+    table.get(number) == Some(port) && table.is_paused(number) == paused && table.is_open(number)
 }
 
-fn find(table: &PortTable, pgn: Pgn, len: u32) -> PortSet {
-    table.find(pgn, len)
+// Whether a step does, or shows, what it says.
+fn is_so(rt: &impl Abort, table: &mut PortTable, step: &Step) -> bool {
+    match step {
+        Step::Open(max_len, expected) => opens(rt, table, *max_len, expected),
+        Step::Close(number, answer) => table.close(*number) == *answer,
+        Step::Pause(number, answer) => table.pause(*number) == *answer,
+        Step::Resume(number, answer) => table.resume(*number) == *answer,
+        Step::Find(pgn, len, numbers) => are(&find(rt, table, *pgn, *len), numbers),
+        Step::Port(number, paused) => is_port(rt, table, *number, *paused),
+        Step::NoPort(number) => !table.is_open(*number) && table.get(*number).is_none(),
+        Step::AnyPaused(paused) => table.any_paused(&find(rt, table, FECA, 9)) == *paused,
+        Step::Count(ports) => table.len() == *ports && table.is_empty() == (*ports == 0),
+    }
 }
 
-fn close(table: &mut PortTable, number: u64) -> Result<(), Refused> {
-    table.close(number)
+// Ends the test at the first step that isn't so, and prints its place in the table.
+fn play(rt: &impl Abort, table: &mut PortTable, steps: &[Step]) {
+    for (place, step) in steps.iter().enumerate() {
+        same(rt, (place, is_so(rt, table, step)), (place, true));
+    }
 }
 
-fn pause(table: &mut PortTable, number: u64) -> Result<(), Refused> {
-    table.pause(number)
+// Station 35, which has no port yet, does all this.
+fn does(rt: &impl Abort, alloc: Global, steps: &[Step]) {
+    let mut table = new_table(rt, alloc);
+    holds(rt, table.station() == STATION);
+    play(rt, &mut table, steps);
 }
 
-fn resume(table: &mut PortTable, number: u64) -> Result<(), Refused> {
-    table.resume(number)
-}
-
-// The ports that a message of so many bytes is given to are these.
-fn finds(rt: &impl Abort, table: &PortTable, pgn: Pgn, len: u32, numbers: &[u64]) {
-    shows(rt, &find(table, pgn, len), numbers);
-}
-
-fn closes(rt: &impl Abort, table: &mut PortTable, number: u64, answer: Result<(), Refused>) {
-    holds(rt, close(table, number) == answer);
-}
-
-fn pauses(rt: &impl Abort, table: &mut PortTable, number: u64, answer: Result<(), Refused>) {
-    holds(rt, pause(table, number) == answer);
-}
-
-fn resumes(rt: &impl Abort, table: &mut PortTable, number: u64, answer: Result<(), Refused>) {
-    holds(rt, resume(table, number) == answer);
-}
-
-// The steps of a test are a function of their own, which owns nothing. A step that can end a test drops what the test owns, and each such
-// place takes its part of the proof.
-fn find_several(rt: &impl Abort, table: &mut PortTable, pgn: Pgn) {
-    opens(rt, table, pgn, 4000, Ok(1));
-    opens(rt, table, pgn, 8, Ok(2));
-    opens(rt, table, pgn, 4000, Ok(3));
-    holds(rt, table.station() == STATION && table.len() == 3);
-    finds(rt, table, pgn, 8, &[1, 2, 3]);
-    finds(rt, table, pgn, 4001, &[]);
-    finds(rt, table, got(rt, Pgn::new(0xFECB)), 9, &[]);
-}
-
-// A set that was found doesn't change.
-fn close_first(rt: &impl Abort, table: &mut PortTable, pgn: Pgn) {
-    let both = find(table, pgn, 9);
-    shows(rt, &both, &[1, 3]);
-    closes(rt, table, 1, Ok(()));
-    shows(rt, &both.without(1), &[3]);
-}
-
-fn close_one_of_several(rt: &impl Abort, table: &mut PortTable, pgn: Pgn) {
-    close_first(rt, table, pgn);
-    closes(rt, table, 1, Err(Refused::NoSuchPort));
-    holds(rt, !table.is_open(1) && table.get(1).is_none());
-    finds(rt, table, pgn, 9, &[3]);
-    opens(rt, table, pgn, 9, Ok(4));
-    finds(rt, table, pgn, 9, &[3, 4]);
-}
+const SEVERAL: [Step; 16] = [
+    Step::Count(0),
+    Step::Open(4000, Ok(1)),
+    Step::Open(8, Ok(2)),
+    Step::Open(4000, Ok(3)),
+    Step::Count(3),
+    Step::Find(FECA, 8, [Some(1), Some(2), Some(3)]),
+    Step::Find(FECA, 4001, [None; 3]),
+    Step::Find(0xFECB, 9, [None; 3]),
+    Step::Find(FECA, 9, [Some(1), Some(3), None]),
+    Step::Close(1, Ok(())),
+    Step::Close(1, Err(Refused::NoSuchPort)),
+    Step::NoPort(1),
+    Step::Find(FECA, 9, [Some(3), None, None]),
+    Step::Open(9, Ok(4)),
+    Step::Find(FECA, 9, [Some(3), Some(4), None]),
+    Step::Count(3),
+];
 
 #[test]
 fn several_ports_of_one_pgn(rt: HostRuntime) {
-    let pgn = got(&rt, Pgn::new(0xFECA));
-    let mut table = new_table(&rt, rt.alloc());
-    holds(&rt, table.is_empty());
-    find_several(&rt, &mut table, pgn);
-    close_one_of_several(&rt, &mut table, pgn);
+    does(&rt, rt.alloc(), &SEVERAL);
 }
 
-// Whether a port of those that were found is paused.
-fn is_any_paused(rt: &impl Abort, table: &PortTable, found: &PortSet, is_paused: bool) {
-    same(rt, table.any_paused(found), is_paused);
-}
-
-fn pause_port(rt: &impl Abort, table: &mut PortTable, pgn: Pgn, found: &PortSet) {
-    resumes(rt, table, 1, Err(Refused::PortNotPaused));
-    pauses(rt, table, 1, Ok(()));
-    pauses(rt, table, 1, Err(Refused::PortPaused));
-    let port = Port {
-        number: 1,
-        pgn,
-        max_len: 1785,
-        paused: true,
-    };
-    holds(rt, table.get(1) == Some(port));
-    holds(rt, table.is_paused(1));
-    is_any_paused(rt, table, found, true);
-    is_any_paused(rt, table, &PortSet::empty(), false);
-    finds(rt, table, pgn, 1785, &[1]);
-}
-
-fn resume_port(rt: &impl Abort, table: &mut PortTable, found: &PortSet) {
-    resumes(rt, table, 1, Ok(()));
-    is_any_paused(rt, table, found, false);
-    closes(rt, table, 1, Ok(()));
-    pauses(rt, table, 1, Err(Refused::NoSuchPort));
-    resumes(rt, table, 1, Err(Refused::NoSuchPort));
-}
-
-fn pause_and_resume(rt: &impl Abort, table: &mut PortTable, pgn: Pgn) {
-    opens(rt, table, pgn, 1785, Ok(1));
-    let found = find(table, pgn, 1785);
-    pause_port(rt, table, pgn, &found);
-    resume_port(rt, table, &found);
-}
+const PAUSED: [Step; 14] = [
+    Step::Open(1785, Ok(1)),
+    Step::Resume(1, Err(Refused::PortNotPaused)),
+    Step::AnyPaused(false),
+    Step::Pause(1, Ok(())),
+    Step::Pause(1, Err(Refused::PortPaused)),
+    Step::Port(1, true),
+    Step::AnyPaused(true),
+    Step::Find(FECA, 1785, [Some(1), None, None]),
+    Step::Resume(1, Ok(())),
+    Step::Port(1, false),
+    Step::AnyPaused(false),
+    Step::Close(1, Ok(())),
+    Step::Pause(1, Err(Refused::NoSuchPort)),
+    Step::Resume(1, Err(Refused::NoSuchPort)),
+];
 
 #[test]
 fn a_paused_port_is_found_and_holds(rt: HostRuntime) {
-    let mut table = new_table(&rt, rt.alloc());
-    pause_and_resume(&rt, &mut table, got(&rt, Pgn::new(0xFECA)));
+    does(&rt, rt.alloc(), &PAUSED);
 }
 
-fn open_sixteen(rt: &impl Abort, table: &mut PortTable, pgn: Pgn) {
-    for number in 1..=16 {
-        opens(rt, table, pgn, 9, Ok(number));
-    }
-    opens(rt, table, pgn, 9, Err(Refused::PortsFull));
-    same(rt, find(table, pgn, 9).len(), 16);
-    closes(rt, table, 7, Ok(()));
-    opens(rt, table, pgn, 9, Ok(17));
-    opens(rt, table, pgn, 9, Err(Refused::PortsFull));
+const SIXTEEN: [Step; 20] = [
+    Step::Open(9, Ok(1)),
+    Step::Open(9, Ok(2)),
+    Step::Open(9, Ok(3)),
+    Step::Open(9, Ok(4)),
+    Step::Open(9, Ok(5)),
+    Step::Open(9, Ok(6)),
+    Step::Open(9, Ok(7)),
+    Step::Open(9, Ok(8)),
+    Step::Open(9, Ok(9)),
+    Step::Open(9, Ok(10)),
+    Step::Open(9, Ok(11)),
+    Step::Open(9, Ok(12)),
+    Step::Open(9, Ok(13)),
+    Step::Open(9, Ok(14)),
+    Step::Open(9, Ok(15)),
+    Step::Open(9, Ok(16)),
+    Step::Open(9, Err(Refused::PortsFull)),
+    Step::Close(7, Ok(())),
+    Step::Open(9, Ok(17)),
+    Step::Open(9, Err(Refused::PortsFull)),
+];
+
+// All of them are found.
+fn find_sixteen(rt: &impl Abort, table: &mut PortTable) {
+    play(rt, table, &SIXTEEN);
+    same(rt, find(rt, table, FECA, 9).len(), 16);
 }
 
 #[test]
 fn sixteen_ports(rt: HostRuntime) {
     let mut table = new_table(&rt, rt.alloc());
-    open_sixteen(&rt, &mut table, got(&rt, Pgn::new(0xEF00)));
+    find_sixteen(&rt, &mut table);
+}
+
+const THREE: [Step; 3] = [
+    Step::Open(4000, Ok(1)),
+    Step::Open(8, Ok(2)),
+    Step::Open(4000, Ok(3)),
+];
+
+// A set that was found doesn't change, and has what is left without a port.
+fn find_and_close(rt: &impl Abort, table: &mut PortTable) {
+    play(rt, table, &THREE);
+    let both = find(rt, table, FECA, 9);
+    same(rt, table.close(1), Ok(()));
+    same(rt, both.numbers(), [1, 3].as_slice());
+    for number in both.iter() {
+        holds(rt, both.contains(*number));
+    }
+    same(rt, both.without(1).numbers(), [3].as_slice());
+    holds(rt, !table.any_paused(&PortSet::empty()));
+}
+
+#[test]
+fn a_set_of_ports_stays_as_it_was_found(rt: HostRuntime) {
+    let mut table = new_table(&rt, rt.alloc());
+    find_and_close(&rt, &mut table);
 }
 
 fn is_of(image: &PortsImage, table: &PortTable) -> bool {
     image.is_of(table)
 }
 
-fn show(rt: &impl Abort, alloc: Global, table: &mut PortTable, pgn: Pgn) {
+const OPENED: [Step; 1] = [Step::Open(9, Ok(1))];
+
+const THEN_PAUSED: [Step; 1] = [Step::Pause(1, Ok(()))];
+
+const THEN_CLOSED: [Step; 1] = [Step::Close(1, Ok(()))];
+
+// The table equals its image until these steps.
+fn until(rt: &impl Abort, alloc: Global, table: &mut PortTable, steps: &[Step]) {
+    let image = got(rt, table.image(alloc));
+    let before = is_of(&image, table);
+    play(rt, table, steps);
+    same(rt, (before, is_of(&image, table)), (true, false));
+}
+
+fn show(rt: &impl Abort, alloc: Global, table: &mut PortTable) {
     let none = got(rt, table.image(alloc));
-    holds(rt, is_of(&none, table));
-    opens(rt, table, pgn, 9, Ok(1));
-    holds(rt, !is_of(&none, table));
-    let one = got(rt, table.image(alloc));
-    holds(rt, is_of(&one, table));
-    pauses(rt, table, 1, Ok(()));
-    holds(rt, !is_of(&one, table));
-    closes(rt, table, 1, Ok(()));
+    until(rt, alloc, table, &OPENED);
+    until(rt, alloc, table, &THEN_PAUSED);
+    until(rt, alloc, table, &THEN_CLOSED);
     // None is open, as before the first was opened, but one number was used.
     holds(rt, !is_of(&none, table));
 }
@@ -191,5 +234,5 @@ fn show(rt: &impl Abort, alloc: Global, table: &mut PortTable, pgn: Pgn) {
 #[test]
 fn an_image_has_the_ports_of_its_table(rt: HostRuntime) {
     let mut table = new_table(&rt, rt.alloc());
-    show(&rt, rt.alloc(), &mut table, got(&rt, Pgn::new(0xFECA)))
+    show(&rt, rt.alloc(), &mut table);
 }

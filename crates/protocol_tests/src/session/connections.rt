@@ -1,7 +1,7 @@
 //! Exchanges of node 35 with node 21, frame by frame.
 use crate::checks::{got, holds, same};
 use crate::session::frames::{Packet, frame, pgn, shows, wire_pgn};
-use crate::session::received::{aborted, answers, complete, completed, goes_on, on, taken};
+use crate::session::received::{aborted, answers, complete, completed, on, taken};
 use bus_frame::Frame;
 use pgn_ids::Address;
 use responder::{Finished, Flow, Left, Peer, Receiver};
@@ -131,61 +131,6 @@ fn nine_bytes_are_given_or_refused(rt: HostRuntime) {
     shows(&rt, refused, CM_TO_21, abort(2));
 }
 
-// All packets but the last are taken: a CTS answers the last of each window. The last CTS.
-fn take_to_254(
-    rt: &impl Abort,
-    state: &mut Receiver,
-    queue: &mut TxQueue,
-    mut cts: Frame,
-) -> Frame {
-    for k in 1..255 {
-        let (left, answer) = taken(rt, state, queue, &packet(k).wire(), true, Flow::Open, 0);
-        same(
-            rt,
-            (k, left, answer.is_some()),
-            (k, Left::Nothing, k % 16 == 0),
-        );
-        cts = answer.unwrap_or(cts);
-    }
-    cts
-}
-
-fn are_places(rt: &impl Abort, bytes: &[u8]) {
-    for (i, byte) in bytes.iter().enumerate() {
-        same(rt, (i, usize::from(*byte)), (i, i.wrapping_add(1) % 256));
-    }
-}
-
-#[test]
-fn the_longest_message_has_sixteen_windows(rt: HostRuntime) {
-    let mut queue = got(&rt, TxQueue::new(rt.alloc()));
-    let (state, cts) = begun(&rt, rt.alloc(), diagnostics(&rt), 255, 1785, Flow::Open);
-    let mut state = state.into_receiver();
-    let cts = take_to_254(&rt, &mut state, &mut queue, cts);
-    shows(
-        &rt,
-        cts,
-        CM_TO_21,
-        [0x11, 0x0F, 0xF1, 0xFF, 0xFF, 0xCA, 0xFE, 0],
-    );
-    let (bytes, end) = completed(
-        &rt,
-        state,
-        &mut queue,
-        &packet(255).wire(),
-        Flow::Open,
-        0,
-    ).given();
-    shows(
-        &rt,
-        end,
-        CM_TO_21,
-        [0x13, 0xF9, 6, 0xFF, 0xFF, 0xCA, 0xFE, 0],
-    );
-    same(&rt, bytes.len(), 1785);
-    are_places(&rt, bytes.as_slice());
-}
-
 #[test]
 fn a_window_is_what_the_rts_allows(rt: HostRuntime) {
     let peer = Peer::new(Address(0x80), Address(0x35), wire_pgn(&rt, 0xEF35));
@@ -214,49 +159,14 @@ fn a_window_is_what_the_rts_allows(rt: HostRuntime) {
     shows(&rt, end, 0x1CEC_8035, [0x13, 9, 0, 2, 0xFF, 0x35, 0xEF, 0]);
 }
 
-// A window of 16 packets that is put on hold after the third of them, and what is then out of order.
-fn window_on_hold(rt: &impl Abort, mut state: InState) {
-    for k in 1..16 {
-        let flow = if k > 3 { Flow::Held } else { Flow::Open };
-        state = goes_on(rt, step(rt, state, &packet(k).wire(), true, flow, 1000));
-    }
-    let (state, hold) = answers(
-        rt,
-        step(rt, state, &packet(16).wire(), true, Flow::Held, 1000),
-    );
-    shows(
-        rt,
-        hold,
-        CM_TO_21,
-        [0x11, 0, 0x11, 0xFF, 0xFF, 0xCA, 0xFE, 0],
-    );
-    let state = goes_on(
-        rt,
-        step(rt, state, &packet(16).wire(), true, Flow::Open, 1001),
-    );
-    let ended = aborted(
-        rt,
-        step(rt, state, &packet(17).wire(), true, Flow::Open, 1001),
-    );
-    shows(rt, ended, CM_TO_21, abort(0xFA));
-}
-
 #[test]
-fn a_hold_is_repeated_until_the_session_is_open(rt: HostRuntime) {
+fn a_hold_is_repeated(rt: HostRuntime) {
     let (state, hold) = begun(&rt, rt.alloc(), diagnostics(&rt), 255, 200, Flow::Held);
     shows(&rt, hold, CM_TO_21, [0x11, 0, 1, 0xFF, 0xFF, 0xCA, 0xFE, 0]);
-    falls_due(&rt, &state, 500);
     let (state, again) = answers(&rt, expire(&rt, state, Flow::Held, 500));
     same(&rt, again, hold);
     falls_due(&rt, &state, 1000);
-    let (state, cts) = answers(&rt, expire(&rt, state, Flow::Open, 1000));
-    shows(
-        &rt,
-        cts,
-        CM_TO_21,
-        [0x11, 0x10, 1, 0xFF, 0xFF, 0xCA, 0xFE, 0],
-    );
-    window_on_hold(&rt, state);
+    state.abort();
 }
 
 fn take_window(rt: &impl Abort, state: &mut Receiver, queue: &mut TxQueue) {

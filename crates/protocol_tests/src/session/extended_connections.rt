@@ -1,15 +1,16 @@
-//! Exact frames of extended exchanges, that calls succeed, and that nothing but a call lets a state go.
+//! Exact frames of extended connections, and that calls succeed. Whole exchanges are cases: message_of_1786_bytes_is_given, and in
+//! script_tests one of 100,000 bytes.
 use crate::checks::{got, holds, same};
 use crate::session::frames::{Packet, frame, pgn, wire_pgn};
-use crate::session::received::{aborted, answers, completed, goes_on, taken};
+use crate::session::received::{aborted, answers, goes_on, taken};
 use bus_frame::Frame;
 use etp_session::{InState, OutState, Received, accept, begin};
 use pgn_ids::Address;
 use responder::{Flow, Left, Peer, Receiver};
-use seg_cut::{Join, packet, packets};
-use std::alloc::{AllocError, Global};
+use seg_cut::Join;
+use std::alloc::Global;
 use std::process::Abort;
-use tp_wire::constants::{CONN_ABORT, ETP_CTS, ETP_EOMA, ETP_MAX_SIZE, ETP_MAX_WINDOW, ETP_RTS};
+use tp_wire::constants::{CONN_ABORT, ETP_CTS, ETP_MAX_SIZE, ETP_MAX_WINDOW, ETP_RTS};
 use tp_wire::{AbortReason, CmFrame, Kind, Wire};
 use tx_queue::TxQueue;
 
@@ -96,93 +97,6 @@ fn falls_due(rt: &impl Abort, state: &InState, now: u64) {
 
 fn has_memory(rt: &impl Abort, state: &Receiver, memory: usize) {
     same(rt, state.memory(), memory);
-}
-
-// Packet k of a message.
-fn data_at(rt: &impl Abort, message: &[u8], k: u32) -> Packet {
-    holds(rt, message.len() <= ETP_MAX_SIZE as usize);
-    holds(rt, k >= 1 && k <= packets(message.len() as u32));
-    data(((k - 1) % 64) as u8 + 1, packet(message, k))
-}
-
-// The DPO of the window that packet k of so many begins.
-fn dpo_at(rt: &impl Abort, count: u32, k: u32) -> Wire<'static> {
-    let before = k.saturating_sub(1);
-    dpo(rt, count.saturating_sub(before).min(64) as u8, before)
-}
-
-// A packet completes the message, or doesn't.
-fn completes(rt: &impl Abort, state: &Receiver, message: &[u8], packet: &Packet, is_last: bool) {
-    same(rt, state.size() as usize, message.len());
-    same(rt, state.completes(&packet.wire()), is_last);
-}
-
-// All packets of a message but the last one are taken, each window behind its DPO. The last CTS and the last DPO.
-fn take_to_last(
-    rt: &impl Abort,
-    message: &[u8],
-    state: &mut Receiver,
-    queue: &mut TxQueue,
-    mut cts: Frame,
-) -> (Frame, Wire<'static>) {
-    holds(rt, message.len() <= ETP_MAX_SIZE as usize);
-    let count = packets(message.len() as u32);
-    let mut dpo = dpo_at(rt, count, 1);
-    for k in 1..count {
-        if k % 64 == 1 {
-            dpo = dpo_at(rt, count, k);
-            same(rt, takes(rt, state, queue, &dpo, 0), (Left::Nothing, None));
-        }
-        let packet = data_at(rt, message, k);
-        completes(rt, state, message, &packet, false);
-        let (left, answer) = takes(rt, state, queue, &packet.wire(), 0);
-        same(rt, (k, left), (k, Left::Nothing));
-        cts = answer.unwrap_or(cts);
-    }
-    (cts, dpo)
-}
-
-// The whole exchange of the message whose bytes are their places, from 1, with this last DPO and packet. The last CTS, and the end of message
-// acknowledgement.
-fn exchange(
-    rt: &impl Abort,
-    alloc: Global,
-    size: u32,
-    last_dpo: &Wire<'_>,
-    last_packet: &Packet,
-) -> (Frame, Frame) {
-    let message = got(rt, places(alloc, size));
-    let mut queue = got(rt, TxQueue::new(alloc));
-    let (state, cts) = begun(rt, alloc, size, Flow::Open);
-    let mut state = state.into_receiver();
-    let (cts, dpo) = take_to_last(rt, message.as_slice(), &mut state, &mut queue, cts);
-    same(rt, &dpo, last_dpo);
-    let packet = data_at(rt, message.as_slice(), packets(size));
-    same(rt, &packet, last_packet);
-    completes(rt, &state, message.as_slice(), &packet, true);
-    let (given, end) = completed(rt, state, &mut queue, &packet.wire(), Flow::Open, 0).given();
-    same(rt, given.as_slice(), message.as_slice());
-    (cts, end)
-}
-
-fn places(alloc: Global, size: u32) -> Result<Vec<u8>, AllocError> {
-    (1..=size).map(|i| (i & 0xFF) as u8).collect(alloc)
-}
-
-#[test]
-fn four_windows(rt: HostRuntime) {
-    let packet = data(0x40, [0xFA, 0xFF, 0xFF, 0xFF, 0xFF, 0xFF, 0xFF]);
-    let (cts, end) = exchange(&rt, rt.alloc(), 1786, &dpo(&rt, 0x40, 0xC0), &packet);
-    same(&rt, cts, from_35(&rt, ETP_CTS, [0x40, 0xC1, 0, 0]));
-    same(&rt, end, from_35(&rt, ETP_EOMA, [0xFA, 0x06, 0, 0]));
-}
-
-#[test]
-fn long_message(rt: HostRuntime) {
-    let packet = data(0x0E, [0x9C, 0x9D, 0x9E, 0x9F, 0xA0, 0xFF, 0xFF]);
-    let (cts, end) = exchange(&rt, rt.alloc(), 100_000, &dpo(&rt, 0x0E, 0x37C0), &packet);
-    same(&rt, cts, from_35(&rt, ETP_CTS, [0x0E, 0xC1, 0x37, 0]));
-    same(&rt, end, from_35(&rt, ETP_EOMA, [0xA0, 0x86, 0x01, 0]));
 }
 
 // A session begins, and its first frame ends it by an abort.
@@ -297,40 +211,41 @@ fn fire(rt: &impl Abort, mut state: InState, flow: Flow, now: u64) -> Received {
     state.expire(flow, now)
 }
 
-#[test]
-fn hold(rt: HostRuntime) {
-    let state = begun_open(&rt, rt.alloc());
-    let (state, first) = answers(&rt, first_window(&rt, state, Flow::Held));
-    same(&rt, first, from_35(&rt, ETP_CTS, [0, 0x41, 0, 0]));
-    let (state, second) = answers(&rt, fire(&rt, state, Flow::Held, 500));
-    same(&rt, second, first);
-    falls_due(&rt, &state, 1000);
-    let (state, cts) = answers(&rt, fire(&rt, state, Flow::Open, 1000));
-    same(&rt, cts, from_35(&rt, ETP_CTS, [0x40, 0x41, 0, 0]));
-    is_abort(&rt, state.close(), 2);
+// The hold ends at tick 1000, and this frame is queued. If memory is refused nothing has changed, and the call succeeds when it is made again.
+fn fires(rt: &impl Abort, state: &mut Receiver, queue: &mut TxQueue) -> Option<Frame> {
+    holds(rt, queue.is_empty());
+    let mut left = state.fire(Flow::Open, 1000, queue);
+    if left == Left::NoMemory {
+        has_memory(rt, state, 64 * 7);
+        holds(rt, queue.is_empty());
+        left = state.fire(Flow::Open, 1000, queue);
+    }
+    same(rt, left, Left::Nothing);
+    queue.pop()
 }
 
-// If memory is refused nothing has changed, and the hold ends once it is there.
+// The hold is repeated, and ends once there is room. If memory is refused nothing has changed.
 #[test]
-fn hold_ends_where_the_receiver_stands(rt: HostRuntime) {
+fn a_hold_ends_where_the_receiver_stands(rt: HostRuntime) {
     let mut queue = got(&rt, TxQueue::new(rt.alloc()));
     let state = begun_open(&rt, rt.alloc());
     let (state, hold) = answers(&rt, first_window(&rt, state, Flow::Held));
     same(&rt, hold, from_35(&rt, ETP_CTS, [0, 0x41, 0, 0]));
+    falls_due(&rt, &state, 500);
     let mut state = state.into_receiver();
-    has_memory(&rt, &state, 64 * 7);
-    let mut left = state.fire(Flow::Open, 500, &mut queue);
-    if left == Left::NoMemory {
-        has_memory(&rt, &state, 64 * 7);
-        holds(&rt, queue.is_empty());
-        left = state.fire(Flow::Open, 500, &mut queue);
-    }
-    same(&rt, left, Left::Nothing);
-    let cts = from_35(&rt, ETP_CTS, [0x40, 0x41, 0, 0]);
-    same(&rt, queue.pop(), Some(cts));
-    has_memory(&rt, &state, 2 * 64 * 7);
     same(&rt, state.peer().from(), Address(0x21));
+    same(&rt, state.fire(Flow::Held, 500, &mut queue), Left::Nothing);
+    same(&rt, queue.pop(), Some(hold));
+    has_memory(&rt, &state, 64 * 7);
+    let cts = from_35(&rt, ETP_CTS, [0x40, 0x41, 0, 0]);
+    same(&rt, fires(&rt, &mut state, &mut queue), Some(cts));
+    has_memory(&rt, &state, 2 * 64 * 7);
     state.abort();
+}
+
+#[test]
+fn a_closed_session_is_aborted(rt: HostRuntime) {
+    is_abort(&rt, begun_open(&rt, rt.alloc()).close(), 2);
 }
 
 #[test]

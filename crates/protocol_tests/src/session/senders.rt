@@ -1,9 +1,9 @@
-//! The sending side of a connection: the frames of whole exchanges, byte by byte, and that each call can succeed.
+//! The sending side of a connection: the frames of an exchange, byte by byte, and that each call can succeed. Exchanges of 1,785 and 1,786
+//! bytes are cases, message_of_1785_bytes_is_given and message_of_1786_bytes_is_given.
 use crate::checks::{got, holds, same};
 use bus_frame::Frame;
 use originator::{Ending, OutOver, OutState, Stepped, begin};
 use pgn_ids::{Address, Pgn};
-use std::alloc::{AllocError, Global};
 use std::process::Abort;
 use tp_wire::{AbortReason, CmFrame, Kind, Outcome, Wire};
 use tx_queue::TxQueue;
@@ -30,42 +30,17 @@ fn end(size: u16, packets: u8, pgn: Pgn) -> Wire<'static> {
     Wire::Cm(CmFrame::EndOfMsgAck { size, packets, pgn })
 }
 
-fn etp_cts(granted: u8, next: u32, pgn: Pgn) -> Wire<'static> {
-    let pgn = pgn.field();
-    Wire::Cm(CmFrame::EtpCts { granted, next, pgn })
-}
-
-fn etp_end(size: u32, pgn: Pgn) -> Wire<'static> {
-    let pgn = pgn.field();
-    Wire::Cm(CmFrame::EtpEoma { size, pgn })
-}
-
-/// A message from 21 begins at tick 0, with its request to send.
-fn begun(rt: &impl Abort, kind: Kind, to: Address, pgn: Pgn, len: u32) -> (OutState, Frame) {
-    let (least, most) = match kind {
-        Kind::Tp => (9, 1785),
-        Kind::Etp => (1786, 117_440_505),
-    };
-    holds(rt, to.is_one() && len >= least && len <= most);
-    let (state, rts) = begin(kind, OWN, to, pgn, len, 0);
+/// The message of nine bytes from 21 begins at tick 0, with its request to send.
+fn begun(rt: &impl Abort, to: Address, pgn: Pgn) -> (OutState, Frame) {
+    holds(rt, to.is_one());
+    let (state, rts) = begin(Kind::Tp, OWN, to, pgn, 9, 0);
     (OutState::AwaitCts(state), rts)
 }
 
 /// The message of nine bytes from 21 on TP, its request to send queued at tick 0.
 fn nine_bytes_to(rt: &impl Abort, to: Address, pgn: Pgn) -> OutState {
-    let (state, _rts) = begun(rt, Kind::Tp, to, pgn, 9);
+    let (state, _rts) = begun(rt, to, pgn);
     state
-}
-
-/// The bytes 01, 02 and so on, from 00 again after FF.
-fn fill(alloc: Global, len: usize) -> Result<Vec<u8>, AllocError> {
-    let mut bytes = Vec::with_capacity(alloc, len)?;
-    let mut byte = 0u8;
-    for _ in 0..len {
-        byte = byte.wrapping_add(1);
-        bytes.push(byte)?;
-    }
-    Ok(bytes)
 }
 
 /// The message that continues after this frame.
@@ -123,7 +98,7 @@ fn is_over(over: OutOver, outcome: Outcome, id: u32, reason: u8) -> bool {
 fn nine_bytes_are_acknowledged(rt: HostRuntime) {
     let pgn = got(&rt, Pgn::new(0xFECA));
     let mut queue = got(&rt, TxQueue::new(rt.alloc()));
-    let (state, rts) = begun(&rt, Kind::Tp, PEER, pgn, 9);
+    let (state, rts) = begun(&rt, PEER, pgn);
     holds(
         &rt,
         is_frame(&rts, 0x1CEC_3521, [0x10, 9, 0, 2, 0xFF, 0xCA, 0xFE, 0]),
@@ -145,22 +120,6 @@ fn nine_bytes_are_acknowledged(rt: HostRuntime) {
         &rt,
         over.outcome == Outcome::Acknowledged && over.frame.is_none(),
     );
-}
-
-#[test]
-fn third_resend_is_refused(rt: HostRuntime) {
-    let pgn = got(&rt, Pgn::new(0xFECA));
-    let mut queue = got(&rt, TxQueue::new(rt.alloc()));
-    let mut state = nine_bytes_to(&rt, FOREIGN, pgn);
-    for _ in 0..3 {
-        state = goes_on(&rt, state, cts(2, 1, pgn));
-        pump(&rt, &mut state, &NINE, 0, &mut queue);
-        holds(&rt, are_both_packets(&mut queue, 0x1CEB_8021));
-    }
-    let over = ends(&rt, state, cts(2, 1, pgn));
-    holds(&rt, is_over(over, Outcome::Aborted(5), 0x1CEC_8021, 5));
-    let over = ends(&rt, nine_bytes_to(&rt, FOREIGN, pgn), cts(2, 2, pgn));
-    holds(&rt, is_over(over, Outcome::Aborted(250), 0x1CEC_8021, 250));
 }
 
 #[test]
@@ -264,122 +223,5 @@ fn ends_from_outside(rt: HostRuntime) {
     holds(
         &rt,
         over.outcome == Outcome::Overrun && over.frame.is_none(),
-    );
-}
-
-/// The first and the last frame of a window, and how many it had.
-#[derive(Drop)]
-struct Window {
-    first: Option<Frame>,
-    last: Option<Frame>,
-    frames: usize,
-}
-
-fn note(window: &mut Window, queue: &mut TxQueue) {
-    for _ in 0..8 {
-        if let Some(frame) = queue.pop() {
-            if window.first.is_none() {
-                window.first = Some(frame);
-            }
-            window.last = Some(frame);
-            window.frames = window.frames.saturating_add(1);
-        }
-    }
-}
-
-/// Takes the CTS of a window of at most 64 packets, and pumps them.
-fn whole_window(
-    rt: &impl Abort,
-    state: OutState,
-    wire: Wire<'_>,
-    message: &[u8],
-    queue: &mut TxQueue,
-) -> (OutState, Window) {
-    let mut state = goes_on(rt, state, wire);
-    let mut window = Window {
-        first: None,
-        last: None,
-        frames: 0,
-    };
-    for _ in 0..9 {
-        pump(rt, &mut state, message, 0, queue);
-        note(&mut window, queue);
-    }
-    (state, window)
-}
-
-#[test]
-fn extended_windows(rt: HostRuntime) {
-    let pgn = got(&rt, Pgn::new(0xFECA));
-    let message = got(&rt, fill(rt.alloc(), 1786));
-    let mut queue = got(&rt, TxQueue::new(rt.alloc()));
-    let (mut state, rts) = begun(&rt, Kind::Etp, PEER, pgn, 1786);
-    holds(
-        &rt,
-        is_frame(&rts, 0x1CC8_3521, [0x14, 0xFA, 6, 0, 0, 0xCA, 0xFE, 0]),
-    );
-    for next in [1, 65, 129] {
-        let (after, window) = whole_window(
-            &rt,
-            state,
-            etp_cts(64, next, pgn),
-            &message,
-            &mut queue,
-        );
-        same(&rt, window.frames, 65);
-        state = after;
-    }
-    let (state, window) = whole_window(&rt, state, etp_cts(64, 193, pgn), &message, &mut queue);
-    same(&rt, window.frames, 65);
-    holds(
-        &rt,
-        is_shown(
-            window.first,
-            0x1CC8_3521,
-            [0x16, 0x40, 0xC0, 0, 0, 0xCA, 0xFE, 0],
-        ),
-    );
-    let last = [0x40, 0xFA, 0xFF, 0xFF, 0xFF, 0xFF, 0xFF, 0xFF];
-    holds(&rt, is_shown(window.last, 0x1CC7_3521, last));
-    let over = ends(&rt, state, etp_end(1786, pgn));
-    holds(
-        &rt,
-        over.outcome == Outcome::Acknowledged && over.frame.is_none(),
-    );
-}
-
-#[test]
-fn sixteen_windows(rt: HostRuntime) {
-    let pgn = got(&rt, Pgn::new(0xFECA));
-    let message = got(&rt, fill(rt.alloc(), 1785));
-    let mut queue = got(&rt, TxQueue::new(rt.alloc()));
-    let (mut state, rts) = begun(&rt, Kind::Tp, PEER, pgn, 1785);
-    holds(
-        &rt,
-        is_frame(
-            &rts,
-            0x1CEC_3521,
-            [0x10, 0xF9, 6, 0xFF, 0xFF, 0xCA, 0xFE, 0],
-        ),
-    );
-    for window in 0..15u8 {
-        let (after, queued) = whole_window(
-            &rt,
-            state,
-            cts(16, window * 16 + 1, pgn),
-            &message,
-            &mut queue,
-        );
-        same(&rt, queued.frames, 16);
-        state = after;
-    }
-    let (state, queued) = whole_window(&rt, state, cts(15, 241, pgn), &message, &mut queue);
-    same(&rt, queued.frames, 15);
-    let last = [0xFF, 0xF3, 0xF4, 0xF5, 0xF6, 0xF7, 0xF8, 0xF9];
-    holds(&rt, is_shown(queued.last, 0x1CEB_3521, last));
-    let over = ends(&rt, state, end(1785, 255, pgn));
-    holds(
-        &rt,
-        over.outcome == Outcome::Acknowledged && over.frame.is_none(),
     );
 }

@@ -1,5 +1,5 @@
-//! Tables of sessions whose timers all start at tick 0. If memory is refused once, the call is made again, so that
-//! each test passes whichever allocation fails.
+//! Tables of sessions whose timers all start at tick 0. If memory is refused once, the call is made again, so that each test passes whichever
+//! allocation fails. The steps of a test are a table, which one function plays: a table needs no proof, and each call in a test does.
 ghost use Rattle.std.specs.Prelude.{◌≡◌, None};
 ghost use Rattle.session_table.specs.Sessions.{IsHeld, state_at};
 ghost use Rattle.seg_cut.specs.Join.{with_room};
@@ -104,18 +104,6 @@ fn is_open(rt: &impl Abort, opened: Result<(), OpenRefused<u8>>) {
 }
 
 // Calls whose result alone a test looks at: their contracts are not carried through it.
-fn new_table(alloc: Global) -> SessionTable<u8> {
-    SessionTable::new(alloc)
-}
-
-fn next_key(table: &SessionTable<u8>, low: Option<Key>) -> Option<Key> {
-    table.next_key(low)
-}
-
-fn next_due(table: &SessionTable<u8>, now: u64) -> Option<Key> {
-    table.next_due(now)
-}
-
 fn take(
     rt: &impl Abort,
     table: &mut SessionTable<u8>,
@@ -155,6 +143,25 @@ fn take_out(rt: &impl Abort, table: &mut SessionTable<u8>, key: Key) -> Held
     }
 }
 
+/// What is done with a table of sessions, or is seen of it. A session is bound to the number of its source.
+enum Step {
+    Open(Key),
+    /// A packet is taken at this tick, which leaves this to do.
+    Take(Key, Packet, u64, Left),
+    /// The same while the session is taken out, which then ends.
+    TakeWithout(Key, Packet, u64, Left),
+    Fire(Key, u64, Left),
+    /// The session is taken out, and ends.
+    End(Key),
+    /// The session is removed, and ends by an abort or without a frame.
+    Remove(Key, bool),
+    /// The lowest key above another.
+    NextKey(Option<Key>, Option<Key>),
+    /// The lowest key that is due at this tick.
+    NextDue(u64, Option<Key>),
+    Count(usize),
+}
+
 // What a packet leaves to do while the session of its key is taken out; the session ends.
 fn left_without(
     rt: &impl Abort,
@@ -170,54 +177,165 @@ fn left_without(
     left
 }
 
-fn end_next(rt: &impl Abort, table: &mut SessionTable<u8>, now: u64, key: Key) {
-    same(rt, next_due(table, now), Some(key));
+fn end(rt: &impl Abort, table: &mut SessionTable<u8>, key: Key) {
     let held = take_out(rt, table, key);
     table.end(held);
 }
 
-fn keys_rise(rt: &impl Abort, table: &SessionTable<u8>, keys: &[Key; 4]) {
-    let mut low = None;
-    for next in keys {
-        low = next_key(table, low);
-        same(rt, low, Some(*next));
+// Whether the session of a key is removed, and ends by an abort or without a frame.
+fn removes(table: &mut SessionTable<u8>, key: Key, is_aborted: bool) -> bool {
+    match table.remove(key) {
+        Some((bound, state)) => {
+            let frame = state.end(AbortReason::Timeout);
+            bound == key.source.0 && frame.is_some() == is_aborted && !table.contains(key)
+        }
+        None => false,
     }
-    same(rt, next_key(table, low), None);
 }
 
-fn end_in_order(rt: &impl Abort, table: &mut SessionTable<u8>, keys: &[Key; 4]) {
-    same(rt, next_due(table, 749), None);
-    same(rt, next_due(table, 750), Some(keys[0]));
-    for next in keys {
-        end_next(rt, table, 1250, *next);
+// Whether a step does, or shows, what it says.
+fn is_so(
+    rt: &impl Abort,
+    alloc: Global,
+    table: &mut SessionTable<u8>,
+    queue: &mut TxQueue,
+    step: &Step,
+) -> bool {
+    match step {
+        Step::Open(key) => {
+            open(rt, alloc, table, *key);
+            true
+        }
+        Step::Take(key, packet, now, left) => {
+            take(rt, table, *key, &packet.wire(), *now, queue) == *left
+        }
+        Step::TakeWithout(key, packet, now, left) => {
+            left_without(rt, table, *key, &packet.wire(), *now, queue) == *left
+        }
+        Step::Fire(key, now, left) => fire(rt, table, *key, *now, queue) == *left,
+        Step::End(key) => {
+            end(rt, table, *key);
+            true
+        }
+        Step::Remove(key, is_aborted) => removes(table, *key, *is_aborted),
+        Step::NextKey(low, key) => table.next_key(*low) == *key,
+        Step::NextDue(now, key) => table.next_due(*now) == *key,
+        Step::Count(sessions) => {
+            table.len() == *sessions && table.is_empty() == (*sessions == 0)
+        }
     }
-    same(rt, next_due(table, 1250), None);
 }
 
-fn open_all(rt: &impl Abort, alloc: Global, table: &mut SessionTable<u8>, keys: &[Key]) {
-    for key in keys {
-        open(rt, alloc, table, *key);
+// A queue, at the second try if memory is refused.
+fn new_queue(rt: &impl Abort, alloc: Global) -> TxQueue {
+    match TxQueue::new(alloc) {
+        Ok(queue) => queue,
+        Err(_) => got(rt, TxQueue::new(alloc)),
     }
 }
+
+// Ends the test at the first step that isn't so, and prints its place in the table. No step queues a frame.
+fn play(rt: &impl Abort, alloc: Global, table: &mut SessionTable<u8>, steps: &[Step]) {
+    let mut queue = new_queue(rt, alloc);
+    for (place, step) in steps.iter().enumerate() {
+        let so = is_so(rt, alloc, table, &mut queue, step);
+        same(rt, (place, so, queue.is_empty()), (place, true, true));
+    }
+}
+
+// A new table does all this.
+fn does(rt: &impl Abort, alloc: Global, steps: &[Step]) {
+    let mut table = SessionTable::new(alloc);
+    play(rt, alloc, &mut table, steps);
+}
+
+const BROADCAST: Key = Key {
+    source: FROM,
+    kind: SessionKind::Broadcast,
+};
+
+const TP: Key = Key {
+    source: FROM,
+    kind: SessionKind::Tp,
+};
+
+const ETP: Key = Key {
+    source: FROM,
+    kind: SessionKind::Etp,
+};
+
+const TP_OF_90: Key = Key {
+    source: Address(0x90),
+    kind: SessionKind::Tp,
+};
+
+const TP_OF_A0: Key = Key {
+    source: Address(0xA0),
+    kind: SessionKind::Tp,
+};
+
+// Keys rise by source and then by kind, in whichever order the sessions began.
+const RISING: [Step; 20] = [
+    Step::Open(TP_OF_A0),
+    Step::Open(ETP),
+    Step::Open(TP_OF_90),
+    Step::Open(BROADCAST),
+    Step::NextKey(None, Some(BROADCAST)),
+    Step::NextKey(Some(BROADCAST), Some(ETP)),
+    Step::NextKey(Some(ETP), Some(TP_OF_90)),
+    Step::NextKey(Some(TP_OF_90), Some(TP_OF_A0)),
+    Step::NextKey(Some(TP_OF_A0), None),
+    Step::NextDue(749, None),
+    Step::NextDue(750, Some(BROADCAST)),
+    Step::NextDue(1250, Some(BROADCAST)),
+    Step::End(BROADCAST),
+    Step::NextDue(1250, Some(ETP)),
+    Step::End(ETP),
+    Step::NextDue(1250, Some(TP_OF_90)),
+    Step::End(TP_OF_90),
+    Step::NextDue(1250, Some(TP_OF_A0)),
+    Step::End(TP_OF_A0),
+    Step::Count(0),
+];
 
 #[test]
 fn due_keys_rise(rt: HostRuntime) {
-    let mut table = new_table(rt.alloc());
-    let keys = [
-        key(0x80, SessionKind::Broadcast),
-        key(0x80, SessionKind::Etp),
-        key(0x90, SessionKind::Tp),
-        key(0xA0, SessionKind::Tp),
-    ];
-    open_all(
-        &rt,
-        rt.alloc(),
-        &mut table,
-        &[keys[3], keys[1], keys[2], keys[0]],
-    );
-    keys_rise(&rt, &table, &keys);
-    end_in_order(&rt, &mut table, &keys);
-    holds(&rt, table.is_empty());
+    does(&rt, rt.alloc(), &RISING);
+}
+
+const TAKEN: [Step; 7] = [
+    Step::Take(BROADCAST, FIRST, 100, Left::Nothing),
+    Step::Open(BROADCAST),
+    Step::Take(BROADCAST, FIRST, 100, Left::Nothing),
+    Step::Take(BROADCAST, LAST, 200, Left::Message),
+    Step::NextDue(849, None),
+    Step::NextDue(850, Some(BROADCAST)),
+    Step::TakeWithout(BROADCAST, LAST, 300, Left::Nothing),
+];
+
+#[test]
+fn a_packet_is_taken_where_its_session_stands(rt: HostRuntime) {
+    does(&rt, rt.alloc(), &TAKEN);
+}
+
+const SILENT: [Step; 12] = [
+    Step::Fire(BROADCAST, 1250, Left::Nothing),
+    Step::Open(BROADCAST),
+    Step::Fire(BROADCAST, 1250, Left::Abort(AbortReason::Timeout)),
+    Step::Remove(BROADCAST, false),
+    Step::Fire(TP, 1250, Left::Nothing),
+    Step::Open(TP),
+    Step::Fire(TP, 1250, Left::Abort(AbortReason::Timeout)),
+    Step::Remove(TP, true),
+    Step::Fire(ETP, 1250, Left::Nothing),
+    Step::Open(ETP),
+    Step::Fire(ETP, 1250, Left::Abort(AbortReason::Timeout)),
+    Step::Remove(ETP, true),
+];
+
+#[test]
+fn a_silent_session_is_to_be_ended(rt: HostRuntime) {
+    does(&rt, rt.alloc(), &SILENT);
 }
 
 // A full table hands a session back with what it was to be bound to.
@@ -234,7 +352,7 @@ fn is_refused(rt: &impl Abort, table: &mut SessionTable<u8>, key: Key, bound: u8
 
 #[test]
 fn the_33rd_is_refused(rt: HostRuntime) {
-    let mut table = new_table(rt.alloc());
+    let mut table = SessionTable::new(rt.alloc());
     for source in 0..32 {
         open(&rt, rt.alloc(), &mut table, key(source, SessionKind::Tp));
     }
@@ -243,82 +361,17 @@ fn the_33rd_is_refused(rt: HostRuntime) {
     same(&rt, table.len(), 32);
 }
 
-// A queue, at the second try if memory is refused.
-fn new_queue(rt: &impl Abort, alloc: Global) -> TxQueue {
-    match TxQueue::new(alloc) {
-        Ok(queue) => queue,
-        Err(_) => got(rt, TxQueue::new(alloc)),
-    }
-}
-
-#[test]
-fn a_packet_is_taken_where_its_session_stands(rt: HostRuntime) {
-    let mut table = new_table(rt.alloc());
-    let mut queue = new_queue(&rt, rt.alloc());
-    let key = key(0x80, SessionKind::Broadcast);
-    let absent = take(&rt, &mut table, key, &FIRST.wire(), 100, &mut queue);
-    open(&rt, rt.alloc(), &mut table, key);
-    let first = take(&rt, &mut table, key, &FIRST.wire(), 100, &mut queue);
-    let last = take(&rt, &mut table, key, &LAST.wire(), 200, &mut queue);
-    same(
-        &rt,
-        (absent, first, last),
-        (Left::Nothing, Left::Nothing, Left::Message),
-    );
-    same(
-        &rt,
-        (next_due(&table, 849), next_due(&table, 850)),
-        (None, Some(key)),
-    );
-    let out = left_without(&rt, &mut table, key, &LAST.wire(), 300, &mut queue);
-    same(&rt, out, Left::Nothing);
-    holds(&rt, queue.is_empty());
-}
-
-// The session of a key is removed, and ends by an abort or without a frame.
-fn ends(rt: &impl Abort, table: &mut SessionTable<u8>, key: Key, is_aborted: bool) {
-    match table.remove(key) {
-        Some((bound, state)) => {
-            let frame = state.end(AbortReason::Timeout);
-            same(
-                rt,
-                (bound, frame.is_some(), table.contains(key)),
-                (key.source.0, is_aborted, false),
-            );
-        }
-        None => panic!(rt; "nothing at the key"),
-    }
-}
-
-#[test]
-fn a_silent_session_is_to_be_ended(rt: HostRuntime) {
-    for kind in [SessionKind::Broadcast, SessionKind::Tp, SessionKind::Etp] {
-        let mut table = new_table(rt.alloc());
-        let mut queue = new_queue(&rt, rt.alloc());
-        let key = key(0x80, kind);
-        let absent = fire(&rt, &mut table, key, 1250, &mut queue);
-        open(&rt, rt.alloc(), &mut table, key);
-        let fired = fire(&rt, &mut table, key, 1250, &mut queue);
-        same(
-            &rt,
-            (absent, fired),
-            (Left::Nothing, Left::Abort(AbortReason::Timeout)),
-        );
-        ends(&rt, &mut table, key, kind != SessionKind::Broadcast);
-    }
-}
-
 #[test]
 fn a_new_session_takes_the_place(rt: HostRuntime) {
-    let mut table = new_table(rt.alloc());
-    let key = key(0x80, SessionKind::Tp);
+    let mut table = SessionTable::new(rt.alloc());
+    let key = TP;
     open(&rt, rt.alloc(), &mut table, key);
     let next = begun(&rt, rt.alloc(), key.kind, 0xEF00);
     let held = take_out(&rt, &mut table, key);
     same(&rt, (table.len(), table.get(key).is_some()), (1, false));
     same(
         &rt,
-        (next_due(&table, 1250), next_key(&table, None)),
+        (table.next_due(1250), table.next_key(None)),
         (None, None),
     );
     table.put_back(held, 9, next);
@@ -346,32 +399,24 @@ fn is_at(image: &IncomingImage, table: &SessionTable<u8>, key: Key) -> bool {
     }
 }
 
-fn is_kept_until_a_packet(
-    rt: &impl Abort,
-    table: &mut SessionTable<u8>,
-    key: Key,
-    image: &IncomingImage,
-    queue: &mut TxQueue,
-) {
-    same(rt, is_at(image, table, key), true);
-    same(
-        rt,
-        take(rt, table, key, &FIRST.wire(), 100, queue),
-        Left::Nothing,
-    );
-    same(rt, is_at(image, table, key), false);
+const OF_A_BROADCAST: [Step; 1] = [Step::Take(BROADCAST, FIRST, 100, Left::Nothing)];
+
+const OF_TP: [Step; 1] = [Step::Take(TP, FIRST, 100, Left::Nothing)];
+
+// The session of a key equals its image until its first packet.
+fn until(rt: &impl Abort, alloc: Global, key: Key, packet: &[Step]) {
+    let mut table = SessionTable::new(alloc);
+    open(rt, alloc, &mut table, key);
+    let image = image_at(rt, alloc, &table, key);
+    let before = is_at(&image, &table, key);
+    play(rt, alloc, &mut table, packet);
+    same(rt, (before, is_at(&image, &table, key)), (true, false));
 }
 
 #[test]
 fn an_image_is_of_a_session_as_it_was(rt: HostRuntime) {
-    for kind in [SessionKind::Broadcast, SessionKind::Tp] {
-        let mut table = new_table(rt.alloc());
-        let mut queue = new_queue(&rt, rt.alloc());
-        let key = key(0x80, kind);
-        open(&rt, rt.alloc(), &mut table, key);
-        let image = image_at(&rt, rt.alloc(), &table, key);
-        is_kept_until_a_packet(&rt, &mut table, key, &image, &mut queue);
-    }
+    until(&rt, rt.alloc(), BROADCAST, &OF_A_BROADCAST);
+    until(&rt, rt.alloc(), TP, &OF_TP);
 }
 
 // Which keys an image has, and what those that aren't held are bound to.
@@ -390,13 +435,13 @@ fn bound(alloc: Global, table: &SessionTable<u8>) -> Result<Vec<(Key, Option<u8>
 
 #[test]
 fn an_image_has_each_key(rt: HostRuntime) {
-    let mut table = new_table(rt.alloc());
-    let keys = [key(0x80, SessionKind::Etp), key(0x90, SessionKind::Tp)];
-    open_all(&rt, rt.alloc(), &mut table, &keys);
+    let mut table = SessionTable::new(rt.alloc());
+    open(&rt, rt.alloc(), &mut table, ETP);
+    open(&rt, rt.alloc(), &mut table, TP_OF_90);
     let kept = match bound(rt.alloc(), &table) {
         Ok(kept) => kept,
         Err(_) => got(&rt, bound(rt.alloc(), &table)),
     };
-    let both = [(keys[0], Some(0x80)), (keys[1], Some(0x90))];
+    let both = [(ETP, Some(0x80)), (TP_OF_90, Some(0x90))];
     same(&rt, kept.as_slice(), both.as_slice());
 }

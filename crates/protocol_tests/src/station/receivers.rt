@@ -1,4 +1,5 @@
-//! Messages to all from 21, received at the ports 35.1 and 35.2. A test ends if memory is refused.
+//! Messages to all from 21, received at the ports 35.1 and 35.2, step by step. The steps of a test are a table, which one function plays: a
+//! table needs no proof, and each call in a test does. A test ends if memory is refused.
 use crate::checks::{got, holds, same};
 use crate::session::frames::Packet;
 use crate::station::frames::{pgn, wire_pgn};
@@ -53,15 +54,26 @@ fn announce(rt: &impl Abort, alloc: Global, ports: &PortTable) -> Receivers {
     sessions
 }
 
-// The event is a message of nine bytes that is given at this port.
-fn is_given(rt: &impl Abort, event: Option<&Event>, number: u64) {
-    match event {
-        Some(Event::Given { port, bytes, .. }) => same(rt, (port.number, bytes.len()), (number, 9)),
-        _ => panic!(rt; "no message is given"),
+// A frame is heard, in a function that owns nothing: each step adds a part of the proof for all that a function owns.
+fn hear(
+    rt: &impl Abort,
+    sessions: &mut Receivers,
+    ports: &PortTable,
+    wire: &Wire<'_>,
+    queue: &mut TxQueue,
+    told: &mut Events,
+) {
+    holds(rt, queue.is_empty());
+    holds(rt, told.is_empty());
+    if !got(rt, sessions.receive(ports, KEY, wire, true, 0, queue)) {
+        return;
+    }
+    if let Wire::Packet { bytes, .. } = wire {
+        let given = sessions.complete(ports, KEY, bytes.array(), true, queue, told);
+        got(rt, given);
     }
 }
 
-// Calls whose result alone a test looks at: their contracts are not carried through it.
 fn receive(
     rt: &impl Abort,
     alloc: Global,
@@ -71,14 +83,7 @@ fn receive(
 ) -> (Option<Frame>, Events) {
     let mut queue = got(rt, TxQueue::new(alloc));
     let mut told = Events::none(alloc);
-    let is_whole = got(rt, sessions.receive(ports, KEY, wire, true, 0, &mut queue));
-    if !is_whole {
-        return (queue.pop(), told);
-    }
-    if let Wire::Packet { bytes, .. } = wire {
-        let given = sessions.complete(ports, KEY, bytes.array(), true, &mut queue, &mut told);
-        got(rt, given);
-    }
+    hear(rt, sessions, ports, wire, &mut queue, &mut told);
     (queue.pop(), told)
 }
 
@@ -94,177 +99,213 @@ fn fire(
     queue.pop()
 }
 
-fn abort(rt: &impl Abort, sessions: &mut Receivers, pgn: u32) {
-    sessions.abort(KEY, wire_pgn(rt, pgn));
+/// What is done with the session of the announced message, or is seen of it.
+enum Step {
+    /// A packet gives no message.
+    Quiet(Packet),
+    /// A packet gives the nine bytes at these ports.
+    Give(Packet, [Option<u64>; 2]),
+    /// A last packet is reported as one of nine bytes for both ports.
+    Want(Packet),
+    /// A port is removed from the session, which continues or ends.
+    Unbind(u64),
+    /// Whether it is due at this tick.
+    Due(u64, bool),
+    /// Its timer fires at this tick.
+    Fire(u64),
+    /// An abort of a message of this PGN.
+    Abort(u32),
+    End,
+    /// Frames were missed.
+    Overrun,
+    /// The lowest source of a session from this address on.
+    Source(u8, Option<Address>),
+    /// Whether there is no session.
+    Empty(bool),
 }
 
-// The step has no frame, and gives no message.
-fn tells_nothing(
-    rt: &impl Abort,
-    alloc: Global,
-    sessions: &mut Receivers,
-    ports: &PortTable,
-    wire: &Wire<'_>,
-) {
-    let (frame, told) = receive(rt, alloc, sessions, ports, wire);
-    same(rt, (frame, told.len()), (None, 0));
+// The number of the port at which nine bytes are given.
+fn given_at(event: Option<&Event>) -> Option<u64> {
+    match event {
+        Some(Event::Given { port, bytes, .. }) => {
+            if bytes.len() == 9 {
+                return Some(port.number);
+            }
+            None
+        }
+        _ => None,
+    }
 }
 
-// The step gives the nine bytes at these ports, and queues nothing.
+// Whether a packet has no answer, and gives the message at these ports.
 fn gives(
     rt: &impl Abort,
     alloc: Global,
     sessions: &mut Receivers,
     ports: &PortTable,
-    wire: &Wire<'_>,
-    numbers: &[u64],
-) {
-    let (frame, told) = receive(rt, alloc, sessions, ports, wire);
-    same(rt, (frame, told.len()), (None, numbers.len()));
-    for (place, number) in numbers.iter().enumerate() {
-        is_given(rt, told.get(place), *number);
-    }
+    packet: &Packet,
+    numbers: &[Option<u64>; 2],
+) -> bool {
+    let (frame, told) = receive(rt, alloc, sessions, ports, &packet.wire());
+    let given = [given_at(told.get(0)), given_at(told.get(1))];
+    let count = usize::from(given[0].is_some()) + usize::from(given[1].is_some());
+    frame.is_none() && given == *numbers && told.len() == count
 }
 
-// A port is removed from the session, which continues or ends without a frame.
-fn ends(rt: &impl Abort, sessions: &mut Receivers, number: u64) {
-    same(rt, sessions.unbind(KEY, number), None);
+fn wants(sessions: &Receivers, packet: &Packet) -> bool {
+    let (set, size) = sessions.wants(KEY, &packet.wire());
+    set.len() == 2 && size == 9
 }
 
-fn is_due_as(rt: &impl Abort, sessions: &Receivers, now: u64, key: Option<Key>) {
-    same(rt, sessions.next_due(now), key);
-}
-
-// There is no session, or there is one.
-fn are_none(rt: &impl Abort, sessions: &Receivers, are: bool) {
-    same(rt, sessions.is_empty(), are);
-}
-
-fn are_wanted(rt: &impl Abort, sessions: &Receivers, wire: &Wire<'_>) {
-    let (set, size) = sessions.wants(KEY, wire);
-    same(rt, (set.len(), size), (2, 9));
-}
-
-#[test]
-fn given_at_both_ports_once(rt: HostRuntime) {
-    let ports = two_ports(&rt, rt.alloc());
-    let mut sessions = announce(&rt, rt.alloc(), &ports);
-    same(&rt, sessions.others(KEY), 0);
-    tells_nothing(&rt, rt.alloc(), &mut sessions, &ports, &FIRST.wire());
-    are_wanted(&rt, &sessions, &LAST.wire());
-    gives(
-        &rt,
-        rt.alloc(),
-        &mut sessions,
-        &ports,
-        &LAST.wire(),
-        &[1, 2],
-    );
-    tells_nothing(&rt, rt.alloc(), &mut sessions, &ports, &LAST.wire());
-}
-
-#[test]
-fn one_of_its_ports_closes(rt: HostRuntime) {
-    let ports = two_ports(&rt, rt.alloc());
-    let mut sessions = announce(&rt, rt.alloc(), &ports);
-    ends(&rt, &mut sessions, 1);
-    tells_nothing(&rt, rt.alloc(), &mut sessions, &ports, &FIRST.wire());
-    gives(&rt, rt.alloc(), &mut sessions, &ports, &LAST.wire(), &[2]);
-}
-
-#[test]
-fn both_of_its_ports_close(rt: HostRuntime) {
-    let ports = two_ports(&rt, rt.alloc());
-    let mut sessions = announce(&rt, rt.alloc(), &ports);
-    ends(&rt, &mut sessions, 1);
-    ends(&rt, &mut sessions, 2);
-    is_due_as(&rt, &sessions, u64::MAX, None);
-}
-
-fn is_source(rt: &impl Abort, sessions: &Receivers, from: u8, source: Option<Address>) {
-    same(rt, sessions.next_source(from), source);
-}
-
-#[test]
-fn sources_are_found(rt: HostRuntime) {
-    let ports = two_ports(&rt, rt.alloc());
-    let sessions = announce(&rt, rt.alloc(), &ports);
-    is_source(&rt, &sessions, 0x21, Some(KEY.source));
-    is_source(&rt, &sessions, 0x22, None);
-}
-
-#[test]
-fn a_silent_session_ends(rt: HostRuntime) {
-    let ports = two_ports(&rt, rt.alloc());
-    let mut sessions = announce(&rt, rt.alloc(), &ports);
-    is_due_as(&rt, &sessions, 749, None);
-    is_due_as(&rt, &sessions, 750, Some(KEY));
-    abort(&rt, &mut sessions, 0xFEC9);
-    is_due_as(&rt, &sessions, 750, Some(KEY));
-    same(&rt, fire(&rt, rt.alloc(), &mut sessions, &ports, 750), None);
-    is_due_as(&rt, &sessions, 750, None);
-}
-
-#[test]
-fn an_abort_ends_the_session_of_its_pgn(rt: HostRuntime) {
-    let ports = two_ports(&rt, rt.alloc());
-    let mut sessions = announce(&rt, rt.alloc(), &ports);
-    abort(&rt, &mut sessions, FECA);
-    is_due_as(&rt, &sessions, 750, None);
-}
-
-#[test]
-fn a_session_is_ended(rt: HostRuntime) {
-    let ports = two_ports(&rt, rt.alloc());
-    let mut sessions = announce(&rt, rt.alloc(), &ports);
-    sessions.end(KEY);
-    is_due_as(&rt, &sessions, 750, None);
-}
-
-#[test]
-fn missed_frames_end_each_session(rt: HostRuntime) {
-    let ports = two_ports(&rt, rt.alloc());
-    let mut sessions = announce(&rt, rt.alloc(), &ports);
-    are_none(&rt, &sessions, false);
-    sessions.overrun();
-    are_none(&rt, &sessions, true);
-    is_due_as(&rt, &sessions, 750, None);
-}
-
-fn image(rt: &impl Abort, sessions: &Receivers) -> ReceiversImage {
-    got(rt, sessions.image())
-}
-
-// The sessions are those of the image, or not.
-fn are_of(rt: &impl Abort, sessions: &Receivers, image: &ReceiversImage, are: bool) {
-    same(rt, image.is_of(sessions), are);
-}
-
-fn until_a_packet_is_taken(
+// Whether a step does, or shows, what it says. None of them has a frame.
+fn is_so(
     rt: &impl Abort,
     alloc: Global,
     sessions: &mut Receivers,
     ports: &PortTable,
-) {
-    let image = image(rt, sessions);
-    are_of(rt, sessions, &image, true);
-    tells_nothing(rt, alloc, sessions, ports, &FIRST.wire());
-    are_of(rt, sessions, &image, false);
+    step: &Step,
+) -> bool {
+    match step {
+        Step::Quiet(packet) => gives(rt, alloc, sessions, ports, packet, &[None, None]),
+        Step::Give(packet, numbers) => gives(rt, alloc, sessions, ports, packet, numbers),
+        Step::Want(packet) => wants(sessions, packet),
+        Step::Unbind(number) => sessions.unbind(KEY, *number).is_none(),
+        Step::Due(now, true) => sessions.next_due(*now) == Some(KEY),
+        Step::Due(now, false) => sessions.next_due(*now).is_none(),
+        Step::Fire(now) => fire(rt, alloc, sessions, ports, *now).is_none(),
+        Step::Abort(pgn) => {
+            sessions.abort(KEY, wire_pgn(rt, *pgn));
+            true
+        }
+        Step::End => {
+            sessions.end(KEY);
+            true
+        }
+        Step::Overrun => {
+            sessions.overrun();
+            true
+        }
+        Step::Source(from, source) => sessions.next_source(*from) == *source,
+        Step::Empty(is_empty) => sessions.is_empty() == *is_empty,
+    }
 }
 
-fn until_a_port_is_closed(rt: &impl Abort, sessions: &mut Receivers) {
-    let image = image(rt, sessions);
-    are_of(rt, sessions, &image, true);
-    ends(rt, sessions, 1);
-    are_of(rt, sessions, &image, false);
-    ends(rt, sessions, 2);
-    are_of(rt, sessions, &image, false);
+// Ends the test at the first step that isn't so, and prints its place in the table.
+fn play(
+    rt: &impl Abort,
+    alloc: Global,
+    sessions: &mut Receivers,
+    ports: &PortTable,
+    steps: &[Step],
+) {
+    for (place, step) in steps.iter().enumerate() {
+        let so = is_so(rt, alloc, sessions, ports, step);
+        same(rt, (place, so), (place, true));
+    }
+}
+
+// Once the message is announced, all this is done.
+fn does(rt: &impl Abort, alloc: Global, steps: &[Step]) {
+    let ports = two_ports(rt, alloc);
+    let mut sessions = announce(rt, alloc, &ports);
+    same(rt, sessions.others(KEY), 0);
+    play(rt, alloc, &mut sessions, &ports, steps);
+}
+
+const GIVEN_ONCE: [Step; 4] = [
+    Step::Quiet(FIRST),
+    Step::Want(LAST),
+    Step::Give(LAST, [Some(1), Some(2)]),
+    Step::Quiet(LAST),
+];
+
+#[test]
+fn given_at_both_ports_once(rt: HostRuntime) {
+    does(&rt, rt.alloc(), &GIVEN_ONCE);
+}
+
+const ONE_CLOSES: [Step; 3] = [
+    Step::Unbind(1),
+    Step::Quiet(FIRST),
+    Step::Give(LAST, [Some(2), None]),
+];
+
+const BOTH_CLOSE: [Step; 3] = [Step::Unbind(1), Step::Unbind(2), Step::Due(u64::MAX, false)];
+
+#[test]
+fn its_ports_close(rt: HostRuntime) {
+    does(&rt, rt.alloc(), &ONE_CLOSES);
+    does(&rt, rt.alloc(), &BOTH_CLOSE);
+}
+
+const SOURCES: [Step; 2] = [
+    Step::Source(0x21, Some(Address(0x21))),
+    Step::Source(0x22, None),
+];
+
+#[test]
+fn sources_are_found(rt: HostRuntime) {
+    does(&rt, rt.alloc(), &SOURCES);
+}
+
+const SILENT: [Step; 6] = [
+    Step::Due(749, false),
+    Step::Due(750, true),
+    Step::Abort(0xFEC9),
+    Step::Due(750, true),
+    Step::Fire(750),
+    Step::Due(750, false),
+];
+
+const ABORTED: [Step; 2] = [Step::Abort(FECA), Step::Due(750, false)];
+
+const ENDED: [Step; 2] = [Step::End, Step::Due(750, false)];
+
+const MISSED: [Step; 4] = [
+    Step::Empty(false),
+    Step::Overrun,
+    Step::Empty(true),
+    Step::Due(750, false),
+];
+
+// By its timer, by an abort of its PGN and of no other, by a call, and by missed frames.
+#[test]
+fn a_session_ends(rt: HostRuntime) {
+    does(&rt, rt.alloc(), &SILENT);
+    does(&rt, rt.alloc(), &ABORTED);
+    does(&rt, rt.alloc(), &ENDED);
+    does(&rt, rt.alloc(), &MISSED);
+}
+
+// The sessions equal their image until these steps.
+fn until(
+    rt: &impl Abort,
+    alloc: Global,
+    sessions: &mut Receivers,
+    ports: &PortTable,
+    steps: &[Step],
+) {
+    let image = got(rt, sessions.image());
+    let before = image.is_of(sessions);
+    play(rt, alloc, sessions, ports, steps);
+    same(rt, (before, image.is_of(sessions)), (true, false));
+}
+
+const TAKEN: [Step; 1] = [Step::Quiet(FIRST)];
+
+const CLOSED: [Step; 1] = [Step::Unbind(1)];
+
+const BOTH_CLOSED: [Step; 2] = [Step::Unbind(1), Step::Unbind(2)];
+
+fn take_and_close(rt: &impl Abort, alloc: Global, ports: &PortTable, last: &[Step]) {
+    let mut sessions = announce(rt, alloc, ports);
+    until(rt, alloc, &mut sessions, ports, &TAKEN);
+    until(rt, alloc, &mut sessions, ports, last);
 }
 
 #[test]
 fn an_image_is_of_the_sessions_as_they_were(rt: HostRuntime) {
     let ports = two_ports(&rt, rt.alloc());
-    let mut sessions = announce(&rt, rt.alloc(), &ports);
-    until_a_packet_is_taken(&rt, rt.alloc(), &mut sessions, &ports);
-    until_a_port_is_closed(&rt, &mut sessions);
+    take_and_close(&rt, rt.alloc(), &ports, &CLOSED);
+    take_and_close(&rt, rt.alloc(), &ports, &BOTH_CLOSED);
 }

@@ -1,91 +1,58 @@
 //! Full rings, owed places, and the most calls that are stored.
+use super::played::*;
 use super::steps::*;
 use bus_frame::{CanId, Frame};
 use pgn_ids::Address;
-use segment_shared::{Accepted, Client, Inbox, Live, MOST_CALLS, NotMade, Refusal, WorkerCall};
+use segment_shared::{Accepted, Client, Inbox, Live, MOST_CALLS, Refusal, WorkerCall};
 use std::alloc::Global;
 use std::process::Abort;
 use tp_wire::Outcome;
 
-// The next message of a client has this outcome.
-fn ends(rt: &impl Abort, live: &mut Live, sender: &mut Client, alloc: Global, expected: Outcome) {
-    submit(rt, sender, R, alloc);
-    go_on(live);
-    let note = got(rt, note(rt, sender).ok_or("no note"));
-    same(rt, note.outcome, expected);
-}
-
-fn are_given(rt: &impl Abort, live: &Live, count: u64) {
-    same(rt, live.counts().given, count);
-}
-
-fn fill_port(
-    rt: &impl Abort,
-    alloc: Global,
-    live: &mut Live,
-    inbox: &mut Inbox,
-    sender: &mut Client,
-) {
-    for _ in 0..64 {
-        ends(rt, live, sender, alloc, Outcome::Acknowledged);
-    }
-    are_given(rt, live, 64);
-    ends(rt, live, sender, alloc, Outcome::Aborted(2));
-    holds(rt, receive(rt, inbox));
-    ends(rt, live, sender, alloc, Outcome::Acknowledged);
-    are_given(rt, live, 65);
-}
-
-fn fill_port_of(rt: &impl Abort, alloc: Global, live: &mut Live) {
-    let (mut inbox, mut sender) = port_and_client(rt, live);
-    fill_port(rt, alloc, live, &mut inbox, &mut sender);
-    drop(inbox);
-    drop(sender);
-}
+const FULL_PORT: [Step; 6] = [
+    Step::ExchangeMany(64),
+    Step::Counts(64, 0),
+    Step::Exchange(Outcome::Aborted(2)),
+    Step::Receive(true),
+    Step::Exchange(Outcome::Acknowledged),
+    Step::Counts(65, 0),
+];
 
 #[test]
 fn a_port_whose_ring_is_full_is_given_nothing(rt: HostRuntime) {
-    let mut live = three(&rt, rt.alloc());
-    fill_port_of(&rt, rt.alloc(), &mut live);
-    drop(live);
+    does(&rt, rt.alloc(), &FULL_PORT);
 }
 
-// The ring of a second port of 35 is empty and that of the first full: a message is given to both or to neither.
+// A message is given to both ports of 35 or to neither.
+const FULL_FIRST: [Step; 1] = [Step::ExchangeMany(64)];
+
+const TO_NEITHER: [Step; 2] = [Step::Exchange(Outcome::Aborted(2)), Step::Counts(64, 0)];
+
+const TO_BOTH: [Step; 3] = [
+    Step::Receive(true),
+    Step::Exchange(Outcome::Acknowledged),
+    Step::Counts(66, 0),
+];
+
+// The ring of a second port of 35 is empty and that of the first full.
 fn give_both_or_neither(
-    rt: &impl Abort,
-    alloc: Global,
-    live: &mut Live,
-    inboxes: (&mut Inbox, &mut Inbox),
-    sender: &mut Client,
-) {
-    let (first, second) = inboxes;
-    ends(rt, live, sender, alloc, Outcome::Aborted(2));
-    are_given(rt, live, 64);
-    holds(rt, !receive(rt, second));
-    holds(rt, receive(rt, first));
-    ends(rt, live, sender, alloc, Outcome::Acknowledged);
-    are_given(rt, live, 66);
-    holds(rt, receive(rt, second));
-}
-
-fn fill_first(
     rt: &impl Abort,
     alloc: Global,
     live: &mut Live,
     first: &mut Inbox,
     sender: &mut Client,
 ) {
-    for _ in 0..64 {
-        ends(rt, live, sender, alloc, Outcome::Acknowledged);
-    }
+    play(rt, alloc, live, first, sender, &FULL_FIRST);
     let mut second = port(rt, live);
-    give_both_or_neither(rt, alloc, live, (first, &mut second), sender);
+    play(rt, alloc, live, first, sender, &TO_NEITHER);
+    holds(rt, !receive(rt, &mut second));
+    play(rt, alloc, live, first, sender, &TO_BOTH);
+    holds(rt, receive(rt, &mut second));
     drop(second);
 }
 
 fn fill_first_of(rt: &impl Abort, alloc: Global, live: &mut Live) {
     let (mut first, mut sender) = port_and_client(rt, live);
-    fill_first(rt, alloc, live, &mut first, &mut sender);
+    give_both_or_neither(rt, alloc, live, &mut first, &mut sender);
     drop(first);
     drop(sender);
 }
@@ -97,79 +64,54 @@ fn a_full_ring_keeps_a_message_from_every_port(rt: HostRuntime) {
     drop(live);
 }
 
-// The front submission of a client is accepted so.
-fn accepts(rt: &impl Abort, live: &mut Live, sender: &Client, expected: Accepted) {
-    same(rt, accept(rt, live, sender), expected);
-}
-
 // The first message of 21 to 35 is cancelled.
-fn cancels_first(rt: &impl Abort, live: &mut Live) {
-    let cancelled = WorkerCall::Cancel {
-        from: A,
-        to: R,
-        number: 1,
-    };
-    made(rt, live, cancelled);
-}
+const CANCEL: WorkerCall = WorkerCall::Cancel {
+    from: A,
+    to: R,
+    number: 1,
+};
 
-fn fill_places(rt: &impl Abort, alloc: Global, live: &mut Live, sender: &mut Client) {
-    for number in 1..33u64 {
-        submit(rt, sender, R, alloc);
-        submit(rt, sender, Address::GLOBAL, alloc);
-        accepts(rt, live, sender, Accepted::Sent(number));
-        accepts(rt, live, sender, Accepted::Sent(number));
-    }
-    submit(rt, sender, Address(0x80), alloc);
-    accepts(rt, live, sender, Accepted::Owed);
-    cancels_first(rt, live);
-    holds(rt, note(rt, sender).is_some());
-    accepts(rt, live, sender, Accepted::Sent(1));
-}
-
-fn fill_places_of(rt: &impl Abort, alloc: Global, live: &mut Live) {
-    let mut sender = client(rt, live, A);
-    fill_places(rt, alloc, live, &mut sender);
-    drop(sender);
-}
+const OWED_PLACES: [Step; 7] = [
+    Step::SendUpTo(R, 32),
+    Step::SendUpTo(Address::GLOBAL, 32),
+    Step::Submit(Address(0x80)),
+    Step::Accept(Accepted::Owed),
+    Step::Make(CANCEL, 1),
+    Step::Note(1, Outcome::Cancelled),
+    Step::Accept(Accepted::Sent(1)),
+];
 
 #[test]
 fn messages_without_an_outcome_hold_their_places(rt: HostRuntime) {
-    let mut live = three(&rt, rt.alloc());
-    fill_places_of(&rt, rt.alloc(), &mut live);
-    drop(live);
+    does(&rt, rt.alloc(), &OWED_PLACES);
 }
 
-fn fill_lane(rt: &impl Abort, alloc: Global, live: &mut Live, sender: &mut Client) {
-    for number in 1..33u64 {
-        submit(rt, sender, R, alloc);
-        accepts(rt, live, sender, Accepted::Sent(number));
-    }
-    submit(rt, sender, R, alloc);
-    accepts(rt, live, sender, Accepted::Refused(Refusal::LaneFull));
-    cancels_first(rt, live);
-    accepts(rt, live, sender, Accepted::Sent(33));
-}
-
-fn fill_lane_of(rt: &impl Abort, alloc: Global, live: &mut Live) {
-    let mut sender = client(rt, live, A);
-    fill_lane(rt, alloc, live, &mut sender);
-    drop(sender);
-}
+const FULL_LANE: [Step; 5] = [
+    Step::SendUpTo(R, 32),
+    Step::Submit(R),
+    Step::Accept(Accepted::Refused(Refusal::LaneFull)),
+    Step::Make(CANCEL, 1),
+    Step::Accept(Accepted::Sent(33)),
+];
 
 #[test]
 fn a_full_lane_keeps_its_submission(rt: HostRuntime) {
-    let mut live = three(&rt, rt.alloc());
-    fill_lane_of(&rt, rt.alloc(), &mut live);
-    drop(live);
-}
-
-// No port is opened at a station, for this cause.
-fn is_unopened(rt: &impl Abort, live: &mut Live, station: Address, cause: Refusal) {
-    let opened = live.open_port(station, feca(rt), 9);
-    same(rt, opened.err(), Some(NotMade::Refused(cause)));
+    does(&rt, rt.alloc(), &FULL_LANE);
 }
 
 const TICK: WorkerCall = WorkerCall::Tick { n: 0 };
+
+const FULL_OF_CALLS: [Step; 6] = [
+    Step::Submit(R),
+    Step::Refuse(TICK, Refusal::TraceFull),
+    Step::Accept(Accepted::Refused(Refusal::TraceFull)),
+    Step::Close(Err(Refusal::TraceFull)),
+    Step::Unopened(R, Refusal::TraceFull),
+    Step::Unopened(Address(0x50), Refusal::NoSuchStation),
+];
+
+// What was refused is done once the calls are handed out.
+const AFTER_A_CUT: [Step; 2] = [Step::Make(TICK, 0), Step::Accept(Accepted::Sent(1))];
 
 fn fill_calls(
     rt: &impl Abort,
@@ -178,26 +120,14 @@ fn fill_calls(
     inbox: &mut Inbox,
     sender: &mut Client,
 ) {
-    submit(rt, sender, R, alloc);
     for _ in 1..MOST_CALLS {
         holds(rt, refused(rt, live, TICK).is_none());
     }
-    let full = Refusal::TraceFull;
-    same(rt, refused(rt, live, TICK), Some(full));
-    accepts(rt, live, sender, Accepted::Refused(full));
-    same(rt, close(rt, live, inbox), Err(full));
-    is_unopened(rt, live, R, full);
-    is_unopened(rt, live, Address(0x50), Refusal::NoSuchStation);
-    goes_on_after_a_cut(rt, live, sender);
-}
-
-// What was refused is done once the calls are handed out.
-fn goes_on_after_a_cut(rt: &impl Abort, live: &mut Live, sender: &Client) {
+    play(rt, alloc, live, inbox, sender, &FULL_OF_CALLS);
     let piece = got(rt, live.cut());
     same(rt, piece.calls.len(), MOST_CALLS);
     drop(piece);
-    holds(rt, refused(rt, live, TICK).is_none());
-    accepts(rt, live, sender, Accepted::Sent(1));
+    play(rt, alloc, live, inbox, sender, &AFTER_A_CUT);
 }
 
 fn fill_calls_of(rt: &impl Abort, alloc: Global, live: &mut Live) {

@@ -1,4 +1,5 @@
-//! What station 35 receives.
+//! What station 35 receives, step by step. The steps of a test are a table, which one function plays: a table needs no proof, and each call
+//! in a test does.
 use super::{B, new_station, open};
 use crate::checks::{got, holds, same};
 use crate::station::frames::frame;
@@ -16,11 +17,32 @@ fn frame_of(rt: &(impl Abort + AllocGlobal), shown: &Shown) -> Frame {
     frame(rt, shown.0, &shown.1)
 }
 
-// Station 35 with one port.
-fn station_35(rt: &(impl Abort + AllocGlobal), alloc: Global) -> Station {
-    let mut station = new_station(rt, alloc, B);
-    open(rt, &mut station);
-    station
+/// What is done with station 35, which has one port, and what follows.
+enum Step {
+    /// A frame is answered by another, without an event.
+    Answer(Shown, Shown),
+    /// A frame isn't answered, and has no event.
+    Silent(Shown),
+    /// A frame that has no meaning changes nothing.
+    Malformed(Shown),
+    /// The frame in front leaves.
+    Pop(Shown),
+    /// A last packet is reported as one of nine bytes for port 1.
+    WantNine(Shown),
+    /// A last packet gives nine bytes at port 1.
+    GiveNine(Shown),
+    /// The same if the packet was read before.
+    HearNine(Shown),
+    /// Frames were missed.
+    Overrun,
+    /// Whether port 1 could be closed.
+    Close(bool),
+    /// Port 1 is paused.
+    Pause,
+    /// Port 1 is resumed.
+    Resume,
+    /// It is due at this tick, and not at the one before, when it refuses to fire. It has no event.
+    Fire(u64),
 }
 
 // Takes a frame. If memory is refused once, it is taken again.
@@ -33,93 +55,89 @@ fn take(rt: &(impl Abort + AllocGlobal), station: &mut Station, shown: &Shown) -
     told
 }
 
-// It answers a frame with this one, and has no event.
-fn answers(rt: &(impl Abort + AllocGlobal), station: &mut Station, shown: &Shown, answer: &Shown) {
-    same(rt, take(rt, station, shown).len(), 0);
-    same(rt, station.pop(), Some(frame_of(rt, answer)));
+// Whether it takes a frame without an event, and has this answer, or none.
+fn answers(
+    rt: &(impl Abort + AllocGlobal),
+    station: &mut Station,
+    shown: &Shown,
+    answer: Option<Frame>,
+) -> bool {
+    take(rt, station, shown).is_empty() && station.pop() == answer
 }
 
-// It doesn't answer a frame, and has no event.
-fn is_silent(rt: &(impl Abort + AllocGlobal), station: &mut Station, shown: &Shown) {
-    same(rt, take(rt, station, shown).len(), 0);
-    same(rt, station.pop(), None);
-}
-
-// The frame in front leaves, and is this one.
-fn pops(rt: &(impl Abort + AllocGlobal), station: &mut Station, shown: &Shown) {
-    let frame = frame_of(rt, shown);
-    same(rt, station.front(), Some(frame));
-    same(rt, station.pop(), Some(frame));
-}
-
-// A last packet is reported as one of nine bytes for port 1.
-fn wants_nine(rt: &(impl Abort + AllocGlobal), station: &Station, shown: &Shown) {
+fn wants_nine(rt: &(impl Abort + AllocGlobal), station: &Station, shown: &Shown) -> bool {
     let (ports, size) = station.wants(&frame_of(rt, shown));
-    same(rt, ports.numbers(), [1].as_slice());
-    same(rt, size, 9);
+    size == 9 && ports.numbers() == [1].as_slice()
 }
 
-// A last packet gives nine bytes at port 1.
-fn gives_nine(rt: &(impl Abort + AllocGlobal), station: &mut Station, shown: &Shown) {
-    let events = take(rt, station, shown);
-    same(rt, events.len(), 1);
+// Whether they are one message of nine bytes that is given at port 1.
+fn are_nine(events: &Events) -> bool {
     match events.get(0) {
-        Some(Event::Given { port, bytes, .. }) => same(rt, (port.number, bytes.len()), (1, 9)),
-        _ => panic!(rt; "no message is given"),
+        Some(Event::Given { port, bytes, .. }) => {
+            events.len() == 1 && port.number == 1 && bytes.len() == 9
+        }
+        _ => false,
     }
 }
 
-// The station does so too if the packet was read before.
-fn hears_nine(
-    rt: &(impl Abort + AllocGlobal),
-    alloc: Global,
-    station: &mut Station,
-    shown: &Shown,
-) {
+fn heard(rt: &(impl Abort + AllocGlobal), station: &mut Station, shown: &Shown) -> Events {
     let frame = frame_of(rt, shown);
-    let mut told = Events::none(alloc);
+    let mut told = Events::none(rt.alloc());
     let Some((wire, from, to)) = read_in_place(&frame, &read_id(frame.id())) else {
         panic!(rt; "a packet without a meaning")
     };
     holds(rt, station.take_refusal().is_none());
     got(rt, station.hear(&wire, from, to, true, 0, &mut told));
-    same(rt, told.len(), 1);
+    told
 }
 
-// A frame that has no meaning changes nothing.
-fn is_malformed(rt: &(impl Abort + AllocGlobal), station: &mut Station, shown: &Shown) {
+fn is_malformed(rt: &(impl Abort + AllocGlobal), station: &mut Station, shown: &Shown) -> bool {
     let mut told = Events::none(rt.alloc());
-    let is_malformed = got(rt, station.take(&frame_of(rt, shown), true, 0, &mut told));
-    same(rt, (is_malformed, told.len()), (true, 0));
+    got(rt, station.take(&frame_of(rt, shown), true, 0, &mut told)) && told.is_empty()
 }
 
-// Calls whose result alone a test looks at: their contracts are not carried through it.
-fn overruns(rt: &(impl Abort + AllocGlobal), station: &mut Station) {
-    same(rt, got(rt, station.overrun()).len(), 0);
-}
-
-fn is_closed(station: &mut Station, number: u64) -> bool {
-    station.close(number).is_ok()
-}
-
-fn is_paused(station: &mut Station, number: u64) -> bool {
-    station.pause(number).is_ok()
-}
-
-fn is_resumed(station: &mut Station, number: u64) -> bool {
-    station.resume(number).is_ok()
-}
-
-// It is due at this tick, and not at the one before, when it refuses to fire. It has no event.
-fn fires(rt: &(impl Abort + AllocGlobal), station: &mut Station, now: u64) {
+fn fires(rt: &(impl Abort + AllocGlobal), station: &mut Station, now: u64) -> bool {
     let before = now.saturating_sub(1);
-    same(
-        rt,
-        (station.is_due(before), station.is_due(now)),
-        (false, true),
-    );
-    same(rt, station.fire(before).is_ok(), false);
-    same(rt, got(rt, station.fire(now)).len(), 0);
+    let is_early = station.is_due(before) || station.fire(before).is_ok();
+    !is_early && station.is_due(now) && got(rt, station.fire(now)).is_empty()
+}
+
+// Whether a step does what it says.
+fn is_so(rt: &(impl Abort + AllocGlobal), station: &mut Station, step: &Step) -> bool {
+    match step {
+        Step::Answer(shown, answer) => {
+            let answer = frame_of(rt, answer);
+            answers(rt, station, shown, Some(answer))
+        }
+        Step::Silent(shown) => answers(rt, station, shown, None),
+        Step::Malformed(shown) => is_malformed(rt, station, shown),
+        Step::Pop(shown) => {
+            let frame = Some(frame_of(rt, shown));
+            station.front() == frame && station.pop() == frame
+        }
+        Step::WantNine(shown) => wants_nine(rt, station, shown),
+        Step::GiveNine(shown) => are_nine(&take(rt, station, shown)),
+        Step::HearNine(shown) => are_nine(&heard(rt, station, shown)),
+        Step::Overrun => got(rt, station.overrun()).is_empty(),
+        Step::Close(done) => station.close(1).is_ok() == *done,
+        Step::Pause => station.pause(1).is_ok(),
+        Step::Resume => station.resume(1).is_ok(),
+        Step::Fire(now) => fires(rt, station, *now),
+    }
+}
+
+// Ends the test at the first step that isn't so, and prints its place in the table.
+fn play(rt: &(impl Abort + AllocGlobal), station: &mut Station, steps: &[Step]) {
+    for (place, step) in steps.iter().enumerate() {
+        same(rt, (place, is_so(rt, station, step)), (place, true));
+    }
+}
+
+// A new station 35 with one port does all this.
+fn does(rt: &(impl Abort + AllocGlobal), alloc: Global, steps: &[Step]) {
+    let mut station = new_station(rt, alloc, B);
+    open(rt, &mut station);
+    play(rt, &mut station, steps);
 }
 
 const RTS: Shown = (
@@ -192,98 +210,89 @@ const ABORT: Shown = (
     [0xFF, 0xFA, 0xFF, 0xFF, 0xFF, 0xCA, 0xFE, 0x00],
 );
 
-// The steps of a test are a function of their own, which owns nothing: each step adds a part of the proof for all that
-// a test owns.
-fn give_a_message(rt: &(impl Abort + AllocGlobal), station: &mut Station) {
-    is_silent(rt, station, &OTHER_TRAFFIC);
-    is_malformed(rt, station, &NO_PACKET);
-    answers(rt, station, &RTS, &CTS);
-    is_silent(rt, station, &FIRST);
-    wants_nine(rt, station, &LAST);
-    gives_nine(rt, station, &LAST);
-    pops(rt, station, &END);
-}
+const GIVEN: [Step; 7] = [
+    Step::Silent(OTHER_TRAFFIC),
+    Step::Malformed(NO_PACKET),
+    Step::Answer(RTS, CTS),
+    Step::Silent(FIRST),
+    Step::WantNine(LAST),
+    Step::GiveNine(LAST),
+    Step::Pop(END),
+];
 
 #[test]
 fn a_message_is_given(rt: HostRuntime) {
-    let mut station = station_35(&rt, rt.alloc());
-    give_a_message(&rt, &mut station);
+    does(&rt, rt.alloc(), &GIVEN);
 }
 
-fn give_what_was_read(rt: &(impl Abort + AllocGlobal), alloc: Global, station: &mut Station) {
-    answers(rt, station, &RTS, &CTS);
-    is_silent(rt, station, &FIRST);
-    hears_nine(rt, alloc, station, &LAST);
-    pops(rt, station, &END);
-}
+const GIVEN_BY_WHAT_WAS_READ: [Step; 4] = [
+    Step::Answer(RTS, CTS),
+    Step::Silent(FIRST),
+    Step::HearNine(LAST),
+    Step::Pop(END),
+];
 
 #[test]
 fn a_message_is_given_by_what_was_read(rt: HostRuntime) {
-    let mut station = station_35(&rt, rt.alloc());
-    give_what_was_read(&rt, rt.alloc(), &mut station);
+    does(&rt, rt.alloc(), &GIVEN_BY_WHAT_WAS_READ);
 }
 
-fn refuse_a_session(rt: &(impl Abort + AllocGlobal), station: &mut Station) {
-    answers(rt, station, &RTS, &CTS);
-    answers(rt, station, &WRONG_RTS, &ABORT);
-    is_silent(rt, station, &WRONG_PACKET);
-}
+const REPLACED: [Step; 3] = [
+    Step::Answer(RTS, CTS),
+    Step::Answer(WRONG_RTS, ABORT),
+    Step::Silent(WRONG_PACKET),
+];
 
 #[test]
 fn a_refused_session_replaces_the_older(rt: HostRuntime) {
-    let mut station = station_35(&rt, rt.alloc());
-    refuse_a_session(&rt, &mut station);
+    does(&rt, rt.alloc(), &REPLACED);
 }
 
-fn miss_frames(rt: &(impl Abort + AllocGlobal), station: &mut Station) {
-    answers(rt, station, &RTS, &CTS);
-    overruns(rt, station);
-    is_silent(rt, station, &WRONG_PACKET);
-}
+const MISSED: [Step; 3] = [
+    Step::Answer(RTS, CTS),
+    Step::Overrun,
+    Step::Silent(WRONG_PACKET),
+];
 
 #[test]
 fn an_overrun_ends_sessions(rt: HostRuntime) {
-    let mut station = station_35(&rt, rt.alloc());
-    miss_frames(&rt, &mut station);
+    does(&rt, rt.alloc(), &MISSED);
 }
 
-fn close_the_port(rt: &(impl Abort + AllocGlobal), station: &mut Station) {
-    answers(rt, station, &RTS, &CTS);
-    same(rt, is_closed(station, 1), true);
-    pops(rt, station, &NO_RESOURCES);
-    same(rt, is_closed(station, 1), false);
-    is_silent(rt, station, &WRONG_PACKET);
-    answers(rt, station, &RTS, &NO_RESOURCES);
-}
+const CLOSED: [Step; 6] = [
+    Step::Answer(RTS, CTS),
+    Step::Close(true),
+    Step::Pop(NO_RESOURCES),
+    Step::Close(false),
+    Step::Silent(WRONG_PACKET),
+    Step::Answer(RTS, NO_RESOURCES),
+];
 
 #[test]
 fn a_closed_port_ends_its_session(rt: HostRuntime) {
-    let mut station = station_35(&rt, rt.alloc());
-    close_the_port(&rt, &mut station);
+    does(&rt, rt.alloc(), &CLOSED);
 }
 
-fn answer_requests(rt: &(impl Abort + AllocGlobal), station: &mut Station) {
-    answers(rt, station, &REQUEST, &ACKNOWLEDGEMENT);
-    is_silent(rt, station, &REQUEST_TO_ALL);
-    is_malformed(rt, station, &MALFORMED);
-}
+const REQUESTED: [Step; 3] = [
+    Step::Answer(REQUEST, ACKNOWLEDGEMENT),
+    Step::Silent(REQUEST_TO_ALL),
+    Step::Malformed(MALFORMED),
+];
 
 #[test]
 fn requests_are_answered(rt: HostRuntime) {
-    let mut station = station_35(&rt, rt.alloc());
-    answer_requests(&rt, &mut station);
+    does(&rt, rt.alloc(), &REQUESTED);
 }
 
-fn pause_the_port(rt: &(impl Abort + AllocGlobal), station: &mut Station) {
-    same(rt, is_paused(station, 1), true);
-    answers(rt, station, &RTS, &HOLD);
-    same(rt, is_resumed(station, 1), true);
-    fires(rt, station, 500);
-    pops(rt, station, &CTS);
-}
+const PAUSED: [Step; 5] = [
+    Step::Pause,
+    Step::Answer(RTS, HOLD),
+    Step::Resume,
+    Step::Fire(500),
+    Step::Pop(CTS),
+];
 
 #[test]
 fn a_paused_port_holds_its_session(rt: HostRuntime) {
-    let mut station = station_35(&rt, rt.alloc());
-    pause_the_port(&rt, &mut station);
+    does(&rt, rt.alloc(), &PAUSED);
 }
