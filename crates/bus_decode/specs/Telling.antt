@@ -14,8 +14,7 @@ use Rattle.log_lines.specs.Listing.{mark_lines}
 use Rattle.log_lines.specs.Text.{told_line, single_line, wrong_line}
 use Rattle.log_lines.specs.Json.{told_object, single_object, wrong_object}
 use Rattle.log_summary.specs.Rows.{Summary}
-use Rattle.log_lines.specs.Rows.{row_objects}
-use Rattle.log_lines.specs.Table.{table_text}
+use Rattle.log_lines.specs.Rows.{row_objects, table_text}
 use Rattle.bus_decode.specs.Followed.{after_told}
 use Rattle.log_summary.specs.Options.{is_asked_for, shows, is_single_asked, follows, detail_of}
 use Rattle.bus_decode.specs.declared.followed.Followed.{Followed}

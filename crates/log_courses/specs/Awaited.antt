@@ -31,9 +31,12 @@ last_at key awaited = lookup (same_key key) awaited
 abbrev pub put_last : Key → Last → Awaited → Awaited
 put_last key l awaited = insert_entry same_key awaited key l
 
+abbrev pub is_to_all : Key → Bool
+is_to_all key = key.to.0 == global_address
+
 -- a message that is given to one node is to be acknowledged; one to all isn't
 abbrev pub awaiting : Told → Awaited → Awaited
-awaiting (Given key pgn bytes) awaited = if key.to.0 == global_address then awaited else put_last key (record { pgn = pgn; size = length bytes; is_met = false }) awaited
+awaiting (Given key pgn bytes) awaited = if is_to_all key then awaited else put_last key (record { pgn = pgn; size = length bytes; is_met = false }) awaited
 awaiting (Aborted key pgn reason who) awaited = awaited
 awaiting (Lost key pgn have size cause) awaited = awaited
 

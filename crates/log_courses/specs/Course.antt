@@ -1,5 +1,5 @@
 -- The course of a message (SAE J1939-21, transport protocol; ISO 11783-3, extended transport protocol).
-use Rattle.std.specs.Prelude.{ℕ, ◌+◌, ◌-◌, ◌^◌, List, [], ◌∷◌, ◌++◌, length, ◌==◌, nat_lt, min, max, if◌then◌else◌}
+use Rattle.std.specs.Prelude.{ℕ, ◌+◌, ◌-◌, ◌^◌, List, [], ◌∷◌, ◌++◌, length, Bool, ◌==◌, nat_lt, min, max, if◌then◌else◌}
 use Rattle.pgn_ids.specs.Pgn.{clean}
 use Rattle.tp_wire.specs.Rows.{cm_pgn}
 use Rattle.tp_wire.specs.declared.wire.CmFrame.{CmFrame}
@@ -39,9 +39,13 @@ asked_to asked granted next = if granted == 0 then asked else max asked (next + 
 abbrev pub with_grant : (granted next : ℕ) → Course → Course
 with_grant granted next c = record c { again = counted (c.again + asked_again c.asked granted next); asked = asked_to c.asked granted next }
 
+-- fewer frames are listed than are at most
+abbrev pub has_room : List Mark → Bool
+has_room marks = nat_lt (length marks) MOST_MARKS
+
 -- one more frame is listed, unless there are as many as are listed at most
 abbrev pub with_mark : Place → Step → List Mark → List Mark
-with_mark place step marks = if nat_lt (length marks) MOST_MARKS then marks ++ (record { place = place; step = step }) ∷ [] else marks
+with_mark place step marks = if has_room marks then marks ++ (record { place = place; step = step }) ∷ [] else marks
 
 -- the effect of a frame is listed, if frames are listed
 abbrev pub noted : Detail → Place → Step → Course → Course

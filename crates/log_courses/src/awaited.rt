@@ -1,6 +1,6 @@
 //! The end acknowledgements of messages that were given.
 ghost use Rattle.std.specs.Prelude.{◌≡◌, [], OnOk, IfOk};
-ghost use Rattle.log_courses.specs.Awaited.{is_open, awaiting, awaiting_each, met_at, cm_met, wire_met, met};
+ghost use Rattle.log_courses.specs.Awaited.{is_open, is_to_all, awaiting, awaiting_each, met_at, cm_met, wire_met, met};
 ghost use Rattle.log_courses.specs.Strays.{stray_left};
 
 use crate::courses::key_between;
@@ -49,6 +49,12 @@ fn is_open(last: &Last, pgn: WirePgn, size: u64) -> bool
     !last.is_met && pgn.clean() == last.pgn && size == last.size
 }
 
+fn is_to_all(key: &Key) -> bool
+    ensures { result ≡ is_to_all key.now }
+{
+    key.to == Address::GLOBAL
+}
+
 impl Awaited {
     /// No message was given. It takes no memory.
     pub fn new(alloc: Global) -> Awaited
@@ -64,7 +70,7 @@ impl Awaited {
     {
         match told {
             Told::Given { key, pgn, bytes } => {
-                if key.to == Address::GLOBAL {
+                if is_to_all(key) {
                     return Ok(());
                 }
                 let last = Last {

@@ -1,6 +1,6 @@
 //! The frames that are listed of a message.
 ghost use Rattle.std.specs.Prelude.{◌≡◌, [], ◌∷◌, ◌++◌, OnOk};
-ghost use Rattle.log_courses.specs.Course.{with_mark};
+ghost use Rattle.log_courses.specs.Course.{has_room, with_mark};
 
 use crate::course::Place;
 use std::alloc::{AllocError, Global};
@@ -73,12 +73,18 @@ impl Marks {
         Ok(())
     }
 
+    fn has_room(&self) -> bool
+        ensures { result ≡ has_room self.now }
+    {
+        self.items.len() < MOST_MARKS
+    }
+
     /// Puts one more frame, unless there are as many as are listed at most.
     pub(crate) fn add(&mut self, place: Place, step: Step) -> Result<(), AllocError>
         ensures { OnOk result (self.new ≡ with_mark place step self.old) }
     {
-        if self.items.len() < MOST_MARKS {
-            self.put(place, step)?;
+        if self.has_room() {
+            return self.put(place, step);
         }
         Ok(())
     }

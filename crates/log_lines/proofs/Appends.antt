@@ -1,47 +1,53 @@
--- Texts that are put one behind the other, and the objects that they are.
-use Rattle.std.proofs.Common.{◌≡◌, List, ℕ, [], ◌∷◌, ◌++◌, Result, Ok, Err, OnOk, refl, sym, ◌∙◌, ap, append_assoc, codes, true, false}
+-- Objects whose members are put one behind the other.
+use Rattle.std.proofs.Common.{◌≡◌, List, ℕ, [], ◌∷◌, ◌++◌, Result, OnOk, refl, sym, ◌∙◌, ap, append_assoc, codes, true, false}
 use Rattle.std.specs.declared.alloc.AllocError.{AllocError}
-use Rattle.serde_json.specs.Written.{compact_text}
-use Rattle.log_courses.specs.declared.course.Place.{Place}
-use Rattle.log_lines.specs.Json.{place_object}
-use Rattle.log_lines.specs.Objects.{Named, object_of, count_of, object_line, key_text, member_text, rest_text}
-use Rattle.log_lines.proofs.Spelled.{line_spelled, all_spelled, tail_text}
+use Rattle.log_courses.specs.declared.marks.Detail.{Detail}
+use Rattle.log_courses.specs.declared.marks.Detail.TheVariants.{Ends, Frames}
+use Rattle.log_courses.specs.declared.marks.Mark.{Mark}
+use Rattle.log_lines.specs.Objects.{Named, object_line, member_text, rest_text}
+use Rattle.log_lines.specs.Meanings.{with_explained, explained_text}
+use Rattle.log_lines.specs.Frames.{with_frames, frames_text}
+use Rattle.log_lines.proofs.Joined.{same_text}
+use Rattle.log_lines.proofs.Spelled.{line_spelled}
 
--- one, and then the others
-pub behind : (result : Result (Unit {0}) AllocError) (a b c x y : List ℕ) → b ≡ a ++ x → OnOk result (c ≡ b ++ y) → OnOk result (c ≡ a ++ (x ++ y))
-behind (Ok done) a b c x y p q = q ∙ ap (λ s. s ++ y) p ∙ append_assoc a x y
-behind (Err error) a b c x y p q = tt
+by_explained : (lines : List (List ℕ)) (ms : List Named) → explained_text lines ++ rest_text ms ≡ rest_text (with_explained lines ms)
+by_explained [] ms = refl
+by_explained (l ∷ ls) ms = refl
 
-abbrev pub spelled : List Named → List ℕ
-spelled [] = object_line []
-spelled (m ∷ ms) = codes "{" ++ (member_text false m.0 m.1 ++ rest_text ms)
+by_frames : (detail : Detail) (marks : List Mark) (ms : List Named) → frames_text detail marks ++ rest_text ms ≡ rest_text (with_frames detail marks ms)
+by_frames Ends marks ms = refl
+by_frames Frames marks ms = refl
 
-is_spelled : (ms : List Named) → spelled ms ≡ object_line ms
-is_spelled [] = refl
-is_spelled (m ∷ ms) = sym (line_spelled m ms)
+abbrev pub first_text : Named → List ℕ
+first_text m = codes "{" ++ member_text false m.0 m.1
+
+abbrev pub later_text : Named → List ℕ
+later_text m = member_text true m.0 m.1
+
+spelled : (m : Named) (ms : List Named) → first_text m ++ rest_text ms ≡ object_line (m ∷ ms)
+spelled m ms = append_assoc (codes "{") (member_text false m.0 m.1) (rest_text ms) ∙ sym (line_spelled m ms)
 
 -- the line of an object
-pub line_put : (result : Result (Unit {0}) AllocError) (a b : List ℕ) (ms : List Named) → OnOk result (b ≡ a ++ spelled ms) → OnOk result (b ≡ a ++ object_line ms)
-line_put (Ok done) a b ms p = p ∙ ap (λ s. a ++ s) (is_spelled ms)
-line_put (Err error) a b ms p = tt
+pub line_put : (result : Result (Unit {0}) AllocError) (a b : List ℕ) (m : Named) (ms : List Named) → OnOk result (b ≡ a ++ (first_text m ++ rest_text ms)) → OnOk result (b ≡ a ++ object_line (m ∷ ms))
+line_put result a b m ms p = same_text result a b _ _ p (spelled m ms)
 
-abbrev pub object_spelled : List Named → List ℕ
-object_spelled [] = compact_text (object_of [])
-object_spelled (m ∷ ms) = codes "{" ++ (member_text false m.0 m.1 ++ tail_text ms)
+-- the line of an object with lines in words behind its first member
+pub lines_put : (result : Result (Unit {0}) AllocError) (a b : List ℕ) (m : Named) (lines : List (List ℕ)) (ms : List Named)
+    → OnOk result (b ≡ a ++ (first_text m ++ (explained_text lines ++ rest_text ms))) → OnOk result (b ≡ a ++ object_line (m ∷ with_explained lines ms))
+lines_put result a b m lines ms p = same_text result a b _ _ p (ap (λ s. first_text m ++ s) (by_explained lines ms) ∙ spelled m (with_explained lines ms))
 
-pub is_object : (ms : List Named) → object_spelled ms ≡ compact_text (object_of ms)
-is_object [] = refl
-is_object (m ∷ ms) = sym (all_spelled m ms)
+-- the line of an object with frames behind its third member
+pub marks_put : (result : Result (Unit {0}) AllocError) (a b : List ℕ) (m n o : Named) (detail : Detail) (marks : List Mark) (ms : List Named)
+    → OnOk result (b ≡ a ++ (first_text m ++ (later_text n ++ (later_text o ++ (frames_text detail marks ++ rest_text ms))))) → OnOk result (b ≡ a ++ object_line (m ∷ n ∷ o ∷ with_frames detail marks ms))
+marks_put result a b m n o detail marks ms p =
+    same_text result a b _ _ p (ap (λ s. first_text m ++ (later_text n ++ (later_text o ++ s))) (by_frames detail marks ms) ∙ spelled m (n ∷ o ∷ with_frames detail marks ms))
 
--- an object within another one
-pub object_put : (result : Result (Unit {0}) AllocError) (a b : List ℕ) (ms : List Named) → OnOk result (b ≡ a ++ object_spelled ms) → OnOk result (b ≡ a ++ compact_text (object_of ms))
-object_put (Ok done) a b ms p = p ∙ ap (λ s. a ++ s) (is_object ms)
-object_put (Err error) a b ms p = tt
-
--- a member that is a place
-pub place_put : (result : Result (Unit {0}) AllocError) (a b name : List ℕ) (p : Place)
-    → OnOk result (b ≡ a ++ (key_text true name ++ object_spelled ((codes "number", count_of p.number) ∷ (codes "time", count_of p.time) ∷ [])))
-    → OnOk result (b ≡ a ++ member_text true name (place_object p))
-unfolding member_text
-place_put (Ok done) a b name p h = h ∙ ap (λ s. a ++ (key_text true name ++ s)) (is_object ((codes "number", count_of p.number) ∷ (codes "time", count_of p.time) ∷ []))
-place_put (Err error) a b name p h = tt
+-- the line of an object with both
+pub both_put : (result : Result (Unit {0}) AllocError) (a b : List ℕ) (m n o : Named) (lines : List (List ℕ)) (detail : Detail) (marks : List Mark) (ms : List Named)
+    → OnOk result (b ≡ a ++ (first_text m ++ (later_text n ++ (explained_text lines ++ (later_text o ++ (frames_text detail marks ++ rest_text ms))))))
+    → OnOk result (b ≡ a ++ object_line (m ∷ n ∷ with_explained lines (o ∷ with_frames detail marks ms)))
+both_put result a b m n o lines detail marks ms p =
+    let others : List Named = o ∷ with_frames detail marks ms in
+    same_text result a b _ _ p
+    (ap (λ s. first_text m ++ (later_text n ++ (explained_text lines ++ (later_text o ++ s)))) (by_frames detail marks ms)
+    ∙ ap (λ s. first_text m ++ (later_text n ++ s)) (by_explained lines others) ∙ spelled m (n ∷ with_explained lines others))

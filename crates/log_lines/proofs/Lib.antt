@@ -1,4 +1,4 @@
 mod Digits
 mod Spelled
+mod Joined
 mod Appends
-mod Behind

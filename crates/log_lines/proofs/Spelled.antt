@@ -3,7 +3,7 @@ use Rattle.std.proofs.Common.{◌≡◌, ℕ, List, [], ◌∷◌, ◌++◌, Boo
 use Rattle.json.specs.Print.{quoted}
 use Rattle.serde_json.specs.Data.{Data}
 use Rattle.serde_json.specs.Written.{comma_if, compact_text, members_text}
-use Rattle.log_lines.specs.Objects.{Named, members_from, object_of, object_line, key_text, member_text, rest_text}
+use Rattle.log_lines.specs.Objects.{Named, members_from, object_line, key_text, member_text, rest_text}
 
 -- a member, and what stands behind it
 one_more : (later : Bool) (name : List ℕ) (d : Data) (rest : List ℕ) → comma_if later ++ (quoted name ++ 58 ∷ (compact_text d ++ rest)) ≡ member_text later name d ++ rest
@@ -26,16 +26,3 @@ line_spelled m ms =
     let rest : List ℕ = members_text true (members_from ms) in
     ap (λ s. 123 ∷ (s ++ codes "\n")) (one_more false m.0 m.1 rest)
     ∙ ap (λ s. 123 ∷ s) (append_assoc (member_text false m.0 m.1) rest (codes "\n") ∙ ap (λ s. member_text false m.0 m.1 ++ s) (later_ones ms))
-
--- members behind another one, to the brace
-abbrev pub tail_text : List Named → List ℕ
-tail_text [] = codes "}"
-tail_text (m ∷ ms) = member_text true m.0 m.1 ++ tail_text ms
-
-tail_spelled : (ms : List Named) → members_text true (members_from ms) ≡ tail_text ms
-tail_spelled [] = refl
-tail_spelled (m ∷ ms) = one_more true m.0 m.1 (members_text true (members_from ms)) ∙ ap (λ s. member_text true m.0 m.1 ++ s) (tail_spelled ms)
-
--- an object that has a member, within another one
-pub all_spelled : (m : Named) (ms : List Named) → compact_text (object_of (m ∷ ms)) ≡ codes "{" ++ (member_text false m.0 m.1 ++ tail_text ms)
-all_spelled m ms = ap (λ s. 123 ∷ s) (one_more false m.0 m.1 (members_text true (members_from ms)) ∙ ap (λ s. member_text false m.0 m.1 ++ s) (tail_spelled ms))

@@ -2,6 +2,7 @@
 use Rattle.std.specs.Prelude.{ℕ, List, [], ◌∷◌, map, true, codes}
 use Rattle.log_lines.specs.Objects.{Named, object_of, array_of, count_of, member_text}
 use Rattle.serde_json.specs.Data.{Data, string}
+use Rattle.serde_json.specs.Written.{compact_text}
 use Rattle.log_courses.specs.declared.course.Place.{Place}
 use Rattle.log_courses.specs.declared.marks.Detail.{Detail}
 use Rattle.log_courses.specs.declared.marks.Detail.TheVariants.{Ends, Frames}
@@ -31,6 +32,9 @@ step_members p End = plain_members (codes "end") p
 
 abbrev pub mark_object : Mark → Data
 mark_object m = object_of (step_members m.place m.step)
+
+abbrev pub mark_text : Mark → List ℕ
+mark_text m = compact_text (mark_object m)
 
 abbrev pub frames_array : List Mark → Data
 frames_array marks = array_of (map mark_object marks)

@@ -72,17 +72,19 @@ aborted_members detail now c key pgn reason who =
     ∷ with_frames detail c.marks ((codes "from", count_of key.from.0)
     ∷ abort_members now c key pgn reason)
 
--- a frame that carries nothing of a message
-abbrev pub frame_members : (now : ℕ) → Iface → (explained : List (List ℕ)) → (from to : Address) → (pgn : ℕ) → List ℕ → List Named
-frame_members now iface explained from to pgn bytes =
-    (codes "data", string (unspaced bytes))
-    ∷ with_explained explained ((codes "from", count_of from.0)
+abbrev pub frame_rest : (now : ℕ) → Iface → (from to : Address) → (pgn : ℕ) → List ℕ → List Named
+frame_rest now iface from to pgn bytes =
+    (codes "from", count_of from.0)
     ∷ (codes "interface", string (name_of iface))
     ∷ (codes "kind", string (codes "frame"))
     ∷ (codes "length", count_of (length bytes))
     ∷ (codes "pgn", count_of pgn)
     ∷ (codes "time", count_of now)
-    ∷ (codes "to", count_of to.0) ∷ [])
+    ∷ (codes "to", count_of to.0) ∷ []
+
+-- a frame that carries nothing of a message
+abbrev pub frame_members : (now : ℕ) → Iface → (explained : List (List ℕ)) → (from to : Address) → (pgn : ℕ) → List ℕ → List Named
+frame_members now iface explained from to pgn bytes = (codes "data", string (unspaced bytes)) ∷ with_explained explained (frame_rest now iface from to pgn bytes)
 
 abbrev pub wrong_members : ℕ → List Named
 wrong_members n = (codes "kind", string (codes "wrong line")) ∷ (codes "line", count_of n) ∷ []

@@ -1,4 +1,5 @@
 pub mod Parts
+pub mod Joined
 pub mod Text
 pub mod Listing
 pub mod Explained
@@ -6,6 +7,7 @@ pub mod Objects
 pub mod Meanings
 pub mod Frames
 pub mod Json
+pub mod Counts
 pub mod Table
 pub mod Rows
-pub mod Rest
+pub mod Members

@@ -1,5 +1,6 @@
 -- Parts of a line, and the line that they are.
-use Rattle.std.specs.Prelude.{ℕ, ◌-◌, List, ◌++◌, length, replicate, flat_map, codes}
+use Rattle.std.specs.Prelude.{ℕ, ◌-◌, List, ◌++◌, length, replicate, codes}
+use Rattle.json.specs.Print.{quoted}
 use Rattle.std.specs.Fmt.{decimal}
 use Rattle.pgn_ids.specs.declared.address.Address.{Address}
 use Rattle.text_digits.specs.Digits.{digits, unspaced}
@@ -26,7 +27,4 @@ part_text (parts.Address a) = address_text a
 part_text (parts.Pgn pgn) = pgn_text pgn
 part_text (parts.Hex bytes) = unspaced bytes.now
 part_text (parts.Column width n) = column width (decimal n)
-
--- one behind the other
-abbrev pub parts_text : List Part → List ℕ
-parts_text parts = flat_map part_text parts
+part_text (parts.Quoted text) = quoted text.now

@@ -3,11 +3,10 @@ use Rattle.std.specs.Prelude.{ℕ, ◌-◌, List, ◌++◌, length, replicate, f
 use Rattle.std.specs.Fmt.{decimal}
 use Rattle.log_fields.specs.Iface.{name_of}
 use Rattle.log_fields.specs.declared.iface.Iface.{Iface}
-use Rattle.log_reports.specs.Causes.{cause_words}
-use Rattle.log_summary.specs.Rows.{Summary, rows_of, aborts_of, losses_of, frames_on, mean_of, share_of}
-use Rattle.log_summary.specs.declared.row.LossCount.{LossCount}
+use Rattle.log_summary.specs.Rows.{mean_of, share_of}
+use Rattle.log_summary.specs.declared.row.ReasonCount.{ReasonCount}
 use Rattle.log_summary.specs.declared.row.Row.{Row}
-use Rattle.log_summary.specs.declared.summary.AbortCount.{AbortCount}
+use Rattle.log_lines.specs.Counts.{count_line}
 use Rattle.log_lines.specs.Parts.{address_text, pgn_text, column}
 
 -- a name, in a column of fifteen
@@ -29,24 +28,10 @@ rest_text r all = column 6 (decimal r.again) ++ column 6 (decimal (share_of r.fr
 unfoldable pub row_line : Row → (all : ℕ) → List ℕ
 row_line r all = way_text r ++ given_text r ++ rest_text r all
 
-abbrev pub abort_line : AbortCount → List ℕ
-abort_line a = codes "  aborted " ++ decimal a.count ++ codes " reason " ++ decimal a.reason ++ codes "\n"
-
-abbrev pub abort_lines : List AbortCount → List ℕ
-abort_lines aborts = flat_map abort_line aborts
-
-abbrev pub loss_line : LossCount → List ℕ
-loss_line l = codes "  lost " ++ decimal l.count ++ codes " " ++ cause_words l.cause ++ codes "\n"
-
-abbrev pub loss_lines : List LossCount → List ℕ
-loss_lines lost = flat_map loss_line lost
-
-unfoldable pub row_lines : Summary → Row → List ℕ
-row_lines s r = row_line r (frames_on r.iface s) ++ (abort_lines (aborts_of r s) ++ loss_lines (losses_of r))
+-- the line of a row, and those of its counts
+abbrev pub row_with : Row → (aborts lost : List ReasonCount) → (all : ℕ) → List ℕ
+row_with r aborts lost all = row_line r all ++ (flat_map count_line aborts ++ flat_map count_line lost)
 
 -- the names of the columns
-unfoldable pub header_line : List ℕ
+abbrev pub header_line : List ℕ
 header_line = codes "interface         pgn from   to    given      bytes       mean    longest  again  share\n"
-
-unfoldable pub table_text : Summary → List ℕ
-table_text s = header_line ++ flat_map (row_lines s) (rows_of s)

@@ -8,22 +8,20 @@
 //! Each call puts its text behind what `out` holds. It fails only if memory is refused, and may have put a part of the text then.
 #![tactic(auto)]
 
+mod counts;
 mod explained;
 mod frames;
 mod listing;
-mod meanings;
+mod lists;
 mod members;
 mod objects;
 mod parts;
-mod rest;
 mod rows;
 mod strings;
-mod table;
 mod text;
 
 pub use explained::put_explained;
 pub use listing::put_marks;
 pub use objects::{put_single_object, put_told_object, put_wrong_object};
-pub use rows::put_row_objects;
-pub use table::put_table;
+pub use rows::{put_row_objects, put_table};
 pub use text::{put_single, put_told, put_wrong};

@@ -2,7 +2,7 @@
 ghost use Rattle.std.specs.Prelude.{◌≡◌, ◌++◌, OnOk};
 ghost use Rattle.log_lines.specs.Listing.{range_text, step_text, mark_line, mark_lines};
 
-use crate::parts::{Part, put_parts};
+use crate::parts::{Part, Printed, put_each};
 use log_courses::{Mark, Step};
 use std::alloc::AllocError;
 use text_digits::put_text;
@@ -18,7 +18,7 @@ fn put_range(out: &mut Vec<u8>, what: &str, first: u64, last: u64) -> Result<(),
         Part::Number(last),
         Part::Text("\n"),
     ];
-    put_parts(out, &parts)
+    put_each(out, &parts)
 }
 
 /// What a frame does.
@@ -34,18 +34,19 @@ fn put_step(out: &mut Vec<u8>, step: Step) -> Result<(), AllocError>
     }
 }
 
-/// The line of a frame.
-fn put_mark(out: &mut Vec<u8>, mark: &Mark) -> Result<(), AllocError>
-    ensures { OnOk result (out.new.items ≡ out.old.items ++ mark_line mark.now) }
-{
-    let parts = [
-        Part::Text("  "),
-        Part::Time(mark.place.time),
-        Part::Text(" "),
-        Part::Number(mark.place.number),
-    ];
-    put_parts(out, &parts)?;
-    put_step(out, mark.step)
+impl Printed for Mark {
+    ghost text = { mark_line };
+
+    fn put(&self, out: &mut Vec<u8>) -> Result<(), AllocError> {
+        let parts = [
+            Part::Text("  "),
+            Part::Time(self.place.time),
+            Part::Text(" "),
+            Part::Number(self.place.number),
+        ];
+        put_each(out, &parts)?;
+        put_step(out, self.step)
+    }
 }
 
 /// The lines of frames of a message, each indented by two blanks.
@@ -53,8 +54,5 @@ fn put_mark(out: &mut Vec<u8>, mark: &Mark) -> Result<(), AllocError>
 pub fn put_marks(out: &mut Vec<u8>, marks: &[Mark]) -> Result<(), AllocError>
     ensures { OnOk result (out.new.items ≡ out.old.items ++ mark_lines marks.now) }
 {
-    for mark in marks {
-        put_mark(out, mark)?;
-    }
-    Ok(())
+    put_each(out, marks)
 }

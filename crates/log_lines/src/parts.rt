@@ -1,13 +1,32 @@
-//! A line as the list of its parts, which one call puts.
-ghost use Rattle.std.specs.Prelude.{◌≡◌, ◌++◌, replicate, OnOk};
-ghost use Rattle.std.specs.Fmt.{decimal};
-ghost use Rattle.log_lines.specs.Parts.{address_text, pgn_text, column, part_text, parts_text};
+//! Texts that are put one behind the other, and the parts of a line.
+ghost use Rattle.std.specs.Prelude.{◌≡◌, ◌++◌, List, ℕ, flat_map, replicate, OnOk};
+ghost use Rattle.log_lines.specs.Parts.{column, part_text};
 
+use crate::strings::put_quoted;
 use itoa::Buffer;
 use log_fields::put_time;
 use pgn_ids::{Address, Pgn};
 use std::alloc::AllocError;
 use text_digits::{put_bytes, put_decimal, put_digits, put_text};
+
+/// What has a text.
+pub(crate) trait Printed {
+    ghost text: { Self → List ℕ };
+
+    /// Puts its text.
+    fn put(&self, out: &mut Vec<u8>) -> Result<(), AllocError>
+        ensures { OnOk result (out.new.items ≡ out.old.items ++ text self.now) };
+}
+
+/// Puts the texts, one behind the other.
+pub(crate) fn put_each<T: Printed>(out: &mut Vec<u8>, items: &[T]) -> Result<(), AllocError>
+    ensures { OnOk result (out.new.items ≡ out.old.items ++ flat_map T.text items.now) }
+{
+    for item in items {
+        item.put(out)?;
+    }
+    Ok(())
+}
 
 /// A part of a line.
 #[derive(Clone, Copy)]
@@ -25,20 +44,8 @@ pub(crate) enum Part<'a> {
     Hex(&'a [u8]),
     /// A number at the right side of a column of so many characters, behind a blank.
     Column(usize, u64),
-}
-
-#[tactic(auto, unfolding(crate::specs::Parts::address_text))]
-fn put_address(out: &mut Vec<u8>, address: Address) -> Result<(), AllocError>
-    ensures { OnOk result (out.new.items ≡ out.old.items ++ address_text address) }
-{
-    put_digits(out, 16, 2, u64::from(address.0))
-}
-
-#[tactic(auto, unfolding(crate::specs::Parts::pgn_text))]
-fn put_pgn(out: &mut Vec<u8>, pgn: Pgn) -> Result<(), AllocError>
-    ensures { OnOk result (out.new.items ≡ out.old.items ++ pgn_text pgn) }
-{
-    put_digits(out, 16, 5, u64::from(pgn.raw()))
+    /// A text as JSON quotes it.
+    Quoted(&'a str),
 }
 
 pub(crate) fn put_blanks(out: &mut Vec<u8>, n: usize) -> Result<(), AllocError>
@@ -60,33 +67,21 @@ fn put_column(out: &mut Vec<u8>, width: usize, text: &[u8]) -> Result<(), AllocE
     out.extend_from_slice(text)
 }
 
-fn put_number(out: &mut Vec<u8>, width: usize, n: u64) -> Result<(), AllocError>
-    ensures { OnOk result (out.new.items ≡ out.old.items ++ column width (decimal n)) }
-{
-    put_column(out, width, Buffer::new().format(n).as_bytes())
-}
+impl<'a> Printed for Part<'a> {
+    ghost text = { part_text };
 
-fn put_part(out: &mut Vec<u8>, part: &Part) -> Result<(), AllocError>
-    ensures { OnOk result (out.new.items ≡ out.old.items ++ part_text part.now) }
-{
-    match part {
-        Part::Text(text) => put_text(out, *text),
-        Part::Bytes(bytes) => out.extend_from_slice(*bytes),
-        Part::Number(n) => put_decimal(out, *n),
-        Part::Time(now) => put_time(out, *now),
-        Part::Address(address) => put_address(out, *address),
-        Part::Pgn(pgn) => put_pgn(out, *pgn),
-        Part::Hex(bytes) => put_bytes(out, *bytes),
-        Part::Column(width, n) => put_number(out, *width, *n),
+    #[tactic(auto, unfolding(crate::specs::Parts::address_text, crate::specs::Parts::pgn_text))]
+    fn put(&self, out: &mut Vec<u8>) -> Result<(), AllocError> {
+        match self {
+            Part::Text(text) => put_text(out, *text),
+            Part::Bytes(bytes) => out.extend_from_slice(*bytes),
+            Part::Number(n) => put_decimal(out, *n),
+            Part::Time(now) => put_time(out, *now),
+            Part::Address(address) => put_digits(out, 16, 2, u64::from(address.0)),
+            Part::Pgn(pgn) => put_digits(out, 16, 5, u64::from(pgn.raw())),
+            Part::Hex(bytes) => put_bytes(out, *bytes),
+            Part::Column(width, n) => put_column(out, *width, Buffer::new().format(*n).as_bytes()),
+            Part::Quoted(text) => put_quoted(out, (*text).as_bytes()),
+        }
     }
-}
-
-/// Puts the parts, one behind the other.
-pub(crate) fn put_parts(out: &mut Vec<u8>, parts: &[Part]) -> Result<(), AllocError>
-    ensures { OnOk result (out.new.items ≡ out.old.items ++ parts_text parts.now) }
-{
-    for part in parts {
-        put_part(out, part)?;
-    }
-    Ok(())
 }

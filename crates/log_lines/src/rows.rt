@@ -1,142 +1,179 @@
-//! The rows of a summary, as objects of JSON.
-ghost use Rattle.std.specs.Prelude.{◌≡◌, ◌∷◌, ◌++◌, map, flat_map, codes, true, false, OnOk};
-ghost use Rattle.json.specs.Print.{quoted};
-ghost use Rattle.log_lines.specs.Objects.{count_of, member_text, object_line, members_from};
-ghost use Rattle.serde_json.specs.Written.{comma_if, compact_text, members_text};
-ghost use Rattle.log_lines.specs.Rows.{abort_member, aborts_object, loss_member, losses_object, row_members, row_object, row_objects};
+//! The rows of a summary, as a table or as objects of JSON.
+ghost use Rattle.std.specs.Prelude.{◌≡◌, ◌++◌, flat_map, OnOk};
+ghost use Rattle.log_lines.specs.Objects.{object_line};
+ghost use Rattle.log_lines.specs.Rows.{row_members, row_objects, row_printed, row_text, rows_text, table_text};
+ghost use Rattle.log_lines.specs.Table.{name_text, way_text, given_text, rest_text, row_line, row_with};
 
-use crate::members::{put_key, put_number};
-use crate::rest::{Member, put_rest};
-use itoa::Buffer;
-use log_reports::cause_words;
-use log_summary::{AbortCount, LossCount, Row, Summary};
+use crate::members::Member;
+use crate::parts::{Part, put_blanks, put_each};
+use log_fields::Iface;
+use log_summary::{ReasonCount, Row, Summary};
 use std::alloc::{AllocError, Global};
 use text_digits::put_text;
 
-/// A count of an object, behind others or not.
-#[tactic(auto, unfolding(crate::specs::Objects::member_text, crate::specs::Objects::key_text))]
-fn put_count(out: &mut Vec<u8>, later: bool, name: &str, n: u64) -> Result<(), AllocError>
-    ensures { OnOk result (out.new.items ≡ out.old.items ++ (comma_if later ++ (quoted name.now ++ 58 ∷ compact_text (count_of n)))) }
-{
-    put_number(out, later, name, n)
+/// How many characters a name has at most.
+const NAME: usize = 15;
+
+/// How rows are printed.
+#[derive(Clone, Copy)]
+pub(crate) enum Form {
+    Table,
+    Objects,
 }
 
-fn put_abort(out: &mut Vec<u8>, later: bool, abort: &AbortCount) -> Result<(), AllocError>
-    ensures { OnOk result (out.new.items ≡ out.old.items ++ (comma_if later ++ (quoted (abort_member abort.now).0 ++ 58 ∷ compact_text (abort_member abort.now).1))) }
+fn put_name(out: &mut Vec<u8>, iface: &Iface) -> Result<(), AllocError>
+    ensures { OnOk result (out.new.items ≡ out.old.items ++ name_text iface.now) }
 {
-    put_count(out, later, Buffer::new().format(abort.reason), abort.count)
+    let name = iface.name();
+    out.extend_from_slice(name)?;
+    put_blanks(out, NAME.saturating_sub(name.len()))
 }
 
-/// The counts, and what closes the object.
-fn put_abort_counts(out: &mut Vec<u8>, aborts: &[AbortCount]) -> Result<(), AllocError>
-    ensures { OnOk result (out.new.items ≡ out.old.items ++ members_text false (members_from (map abort_member aborts.now))) }
+/// The columns that identify the row.
+fn put_way(out: &mut Vec<u8>, row: &Row) -> Result<(), AllocError>
+    ensures { OnOk result (out.new.items ≡ out.old.items ++ way_text row.now) }
 {
-    let mut later = false;
-    for abort in aborts {
-        put_abort(out, later, abort)?;
-        later = true;
-    }
-    put_text(out, "}")
+    put_name(out, &row.iface)?;
+    let parts = [
+        Part::Text(" "),
+        Part::Pgn(row.pgn),
+        Part::Text("   "),
+        Part::Address(row.from),
+        Part::Text("   "),
+        Part::Address(row.to),
+    ];
+    put_each(out, &parts)
 }
 
-#[tactic(auto, unfolding(crate::specs::Objects::member_text))]
-fn put_aborts(out: &mut Vec<u8>, aborts: &[AbortCount]) -> Result<(), AllocError>
-    ensures { OnOk result (out.new.items ≡ out.old.items ++ member_text false (codes "aborts") (aborts_object aborts.now)) }
+/// The messages that were given, what was asked for again, and the share of so many frames.
+fn put_numbers(out: &mut Vec<u8>, row: &Row, all: u64) -> Result<(), AllocError>
+    ensures { OnOk result (out.new.items ≡ out.old.items ++ (given_text row.now ++ rest_text row.now all)) }
 {
-    put_key(out, false, "aborts")?;
-    put_text(out, "{")?;
-    put_abort_counts(out, aborts)
+    let parts = [
+        Part::Column(8, row.given),
+        Part::Column(10, row.bytes),
+        Part::Column(10, row.mean()),
+        Part::Column(10, row.longest),
+        Part::Column(6, row.again),
+        Part::Column(6, row.share(all)),
+        Part::Text("\n"),
+    ];
+    put_each(out, &parts)
 }
 
-fn put_loss(out: &mut Vec<u8>, later: bool, lost: &LossCount) -> Result<(), AllocError>
-    ensures { OnOk result (out.new.items ≡ out.old.items ++ (comma_if later ++ (quoted (loss_member lost.now).0 ++ 58 ∷ compact_text (loss_member lost.now).1))) }
+#[tactic(auto, unfolding(crate::specs::Table::row_line))]
+fn put_line(out: &mut Vec<u8>, row: &Row, all: u64) -> Result<(), AllocError>
+    ensures { OnOk result (out.new.items ≡ out.old.items ++ row_line row.now all) }
 {
-    put_count(out, later, cause_words(lost.cause), lost.count)
+    put_way(out, row)?;
+    put_numbers(out, row, all)
 }
 
-/// The counts, and what closes the object.
-fn put_loss_counts(out: &mut Vec<u8>, lost: &[LossCount]) -> Result<(), AllocError>
-    ensures { OnOk result (out.new.items ≡ out.old.items ++ members_text false (members_from (map loss_member lost.now))) }
+/// The lines of a row.
+fn put_lines(
+    out: &mut Vec<u8>,
+    row: &Row,
+    aborts: &[ReasonCount],
+    lost: &[ReasonCount],
+    all: u64,
+) -> Result<(), AllocError>
+    ensures { OnOk result (out.new.items ≡ out.old.items ++ row_with row.now aborts.now lost.now all) }
 {
-    let mut later = false;
-    for one in lost {
-        put_loss(out, later, one)?;
-        later = true;
-    }
-    put_text(out, "}")
+    put_line(out, row, all)?;
+    put_each(out, aborts)?;
+    put_each(out, lost)
 }
 
-#[tactic(auto, unfolding(crate::specs::Objects::member_text))]
-pub(crate) fn put_losses(out: &mut Vec<u8>, lost: &[LossCount]) -> Result<(), AllocError>
-    ensures { OnOk result (out.new.items ≡ out.old.items ++ member_text true (codes "losses") (losses_object lost.now)) }
-{
-    put_key(out, true, "losses")?;
-    put_text(out, "{")?;
-    put_loss_counts(out, lost)
-}
-
-fn put_row<'a>(
+/// The object of a row.
+fn put_object<'a>(
     out: &mut Vec<u8>,
     row: &'a Row,
-    aborts: &[AbortCount],
-    lost: &'a [LossCount],
+    aborts: &'a [ReasonCount],
+    lost: &'a [ReasonCount],
     all: u64,
 ) -> Result<(), AllocError>
     ensures { OnOk result (out.new.items ≡ out.old.items ++ object_line (row_members row.now aborts.now lost.now all)) }
 {
-    put_text(out, "{")?;
-    put_aborts(out, aborts)?;
-    put_rest(
-        out,
-        &[
-            Member::Number("again", row.again),
-            Member::Number("bytes", row.bytes),
-            Member::Number("frames", row.frames),
-            Member::Address("from", row.from),
-            Member::Number("given", row.given),
-            Member::Interface(row.iface),
-            Member::Words("kind", "summary"),
-            Member::Number("longest", row.longest),
-            Member::Losses(lost),
-            Member::Mean(row),
-            Member::Pgn(row.pgn),
-            Member::Share(row, all),
-            Member::Address("to", row.to),
-        ],
-    )
+    let members = [
+        Member::Counts("{\"aborts\":", aborts),
+        Member::Number(",\"again\":", row.again),
+        Member::Number(",\"bytes\":", row.bytes),
+        Member::Number(",\"frames\":", row.frames),
+        Member::Address(",\"from\":", row.from),
+        Member::Number(",\"given\":", row.given),
+        Member::Interface(row.iface),
+        Member::Number(",\"kind\":\"summary\",\"longest\":", row.longest),
+        Member::Counts(",\"losses\":", lost),
+        Member::Mean(row),
+        Member::Pgn(row.pgn),
+        Member::Share(row, all),
+        Member::Address(",\"to\":", row.to),
+        Member::Text("}\n"),
+    ];
+    put_each(out, &members)
 }
 
-#[tactic(auto, unfolding(crate::specs::Rows::row_object))]
-fn put_object(
+fn put_printed<'a>(
+    out: &mut Vec<u8>,
+    form: Form,
+    row: &'a Row,
+    aborts: &'a [ReasonCount],
+    lost: &'a [ReasonCount],
+    all: u64,
+) -> Result<(), AllocError>
+    ensures { OnOk result (out.new.items ≡ out.old.items ++ row_printed form row.now aborts.now lost.now all) }
+{
+    match form {
+        Form::Table => put_lines(out, row, aborts, lost, all),
+        Form::Objects => put_object(out, row, aborts, lost, all),
+    }
+}
+
+#[tactic(auto, unfolding(crate::specs::Rows::row_text))]
+fn put_row(
     alloc: Global,
     out: &mut Vec<u8>,
+    form: Form,
     summary: &Summary,
     row: &Row,
 ) -> Result<(), AllocError>
-    ensures { OnOk result (out.new.items ≡ out.old.items ++ row_object summary.now row.now) }
+    ensures { OnOk result (out.new.items ≡ out.old.items ++ row_text form summary.now row.now) }
 {
     let aborts = summary.aborts(alloc, row)?;
     let lost = row.lost(alloc)?;
     let all = summary.frames_on(row.iface);
-    put_row(out, row, aborts.as_slice(), lost.as_slice(), all)
+    put_printed(out, form, row, aborts.as_slice(), lost.as_slice(), all)
 }
 
-fn put_each(
+fn put_all(
     alloc: Global,
     out: &mut Vec<u8>,
+    form: Form,
     summary: &Summary,
     rows: &[Row],
 ) -> Result<(), AllocError>
-    ensures { OnOk result (out.new.items ≡ out.old.items ++ flat_map (row_object summary.now) rows.now) }
+    ensures { OnOk result (out.new.items ≡ out.old.items ++ flat_map (row_text form summary.now) rows.now) }
 {
     for row in rows {
-        put_object(alloc, out, summary, row)?;
+        put_row(alloc, out, form, summary, row)?;
     }
     Ok(())
 }
 
+#[tactic(auto, unfolding(crate::specs::Rows::rows_text))]
+fn put_rows(
+    alloc: Global,
+    out: &mut Vec<u8>,
+    form: Form,
+    summary: &Summary,
+) -> Result<(), AllocError>
+    ensures { OnOk result (out.new.items ≡ out.old.items ++ rows_text form summary.now) }
+{
+    let rows = summary.rows(alloc)?;
+    put_all(alloc, out, form, summary, rows.as_slice())
+}
+
 /// An object for each row.
-#[tactic(auto, unfolding(crate::specs::Rows::row_objects))]
 pub fn put_row_objects(
     alloc: Global,
     out: &mut Vec<u8>,
@@ -144,6 +181,16 @@ pub fn put_row_objects(
 ) -> Result<(), AllocError>
     ensures { OnOk result (out.new.items ≡ out.old.items ++ row_objects summary.now) }
 {
-    let rows = summary.rows(alloc)?;
-    put_each(alloc, out, summary, rows.as_slice())
+    put_rows(alloc, out, Form::Objects, summary)
+}
+
+/// A line that names the columns, and the lines of each row.
+pub fn put_table(alloc: Global, out: &mut Vec<u8>, summary: &Summary) -> Result<(), AllocError>
+    ensures { OnOk result (out.new.items ≡ out.old.items ++ table_text summary.now) }
+{
+    put_text(
+        out,
+        "interface         pgn from   to    given      bytes       mean    longest  again  share\n",
+    )?;
+    put_rows(alloc, out, Form::Table, summary)
 }

@@ -2,9 +2,10 @@
 ghost use Rattle.std.specs.Prelude.{◌≡◌, ◌<◌, ◌++◌, OnOk};
 ghost use Rattle.std.specs.Char.{digit_char};
 ghost use Rattle.json.specs.Print.{escape_letter, escape_byte, escape, quoted};
+ghost use Rattle.text_digits.specs.Digits.{unspaced};
 
 use std::alloc::AllocError;
-use text_digits::put_text;
+use text_digits::{put_bytes, put_text};
 
 /// The letter of a byte's short escape, 0 if it has none.
 fn escape_letter(byte: u8) -> u8
@@ -65,6 +66,16 @@ pub(crate) fn put_quoted(out: &mut Vec<u8>, text: &[u8]) -> Result<(), AllocErro
 {
     out.push(b'"')?;
     put_each(out, text)?;
+    out.push(b'"')?;
+    Ok(())
+}
+
+/// Bytes in hexadecimal digits, quoted: none of them is escaped.
+pub(crate) fn put_digits(out: &mut Vec<u8>, bytes: &[u8]) -> Result<(), AllocError>
+    ensures { OnOk result (out.new.items ≡ out.old.items ++ quoted (unspaced bytes.now)) }
+{
+    out.push(b'"')?;
+    put_bytes(out, bytes)?;
     out.push(b'"')?;
     Ok(())
 }

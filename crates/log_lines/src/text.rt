@@ -2,7 +2,7 @@
 ghost use Rattle.std.specs.Prelude.{◌≡◌, ◌++◌, OnOk};
 ghost use Rattle.log_lines.specs.Text.{place_text, way_text, message_text, given_line, aborted_line, lost_line, told_line, wrong_line, single_line};
 
-use crate::parts::{Part, put_parts};
+use crate::parts::{Part, put_each};
 use bus_frame::Frame;
 use log_fields::Iface;
 use log_reports::{Cause, Key, Told, cause_words};
@@ -33,7 +33,7 @@ fn put_head<'a>(
         Part::Pgn(pgn),
         Part::Text(" "),
     ];
-    put_parts(out, &parts)
+    put_each(out, &parts)
 }
 
 fn put_message(out: &mut Vec<u8>, bytes: &[u8]) -> Result<(), AllocError>
@@ -45,7 +45,7 @@ fn put_message(out: &mut Vec<u8>, bytes: &[u8]) -> Result<(), AllocError>
         Part::Hex(bytes),
         Part::Text("\n"),
     ];
-    put_parts(out, &parts)
+    put_each(out, &parts)
 }
 
 fn put_given(
@@ -78,7 +78,7 @@ fn put_aborted(
         Part::Address(who),
         Part::Text("\n"),
     ];
-    put_parts(out, &parts)
+    put_each(out, &parts)
 }
 
 fn put_lost(
@@ -101,7 +101,7 @@ fn put_lost(
         Part::Text(cause_words(cause)),
         Part::Text("\n"),
     ];
-    put_parts(out, &parts)
+    put_each(out, &parts)
 }
 
 /// The line of a report at a time, in microseconds.
@@ -137,7 +137,7 @@ pub fn put_wrong(out: &mut Vec<u8>, number: u64) -> Result<(), AllocError>
         Part::Number(number),
         Part::Text(": not a log line\n"),
     ];
-    put_parts(out, &parts)
+    put_each(out, &parts)
 }
 
 /// The line of a frame that carries nothing of a message, seen at a time in microseconds.

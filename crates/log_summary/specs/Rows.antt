@@ -18,9 +18,10 @@ use Rattle.log_summary.specs.declared.key.Name.{Name}
 use Rattle.log_summary.specs.declared.key.RowKey.{RowKey}
 use Rattle.log_summary.specs.declared.key.AbortKey.{AbortKey}
 use Rattle.log_summary.specs.declared.row.Losses.{Losses}
-use Rattle.log_summary.specs.declared.row.LossCount.{LossCount}
+use Rattle.log_summary.specs.declared.row.Reason.{Reason}
+use Rattle.log_summary.specs.declared.row.Reason.TheVariants.{Abort, Loss}
+use Rattle.log_summary.specs.declared.row.ReasonCount.{ReasonCount}
 use Rattle.log_summary.specs.declared.row.Row.{Row}
-use Rattle.log_summary.specs.declared.summary.AbortCount.{AbortCount}
 use Rattle.log_summary.specs.contracts.key.NameOrd.TheImpl as names
 use Rattle.log_summary.specs.contracts.key.RowKeyOrd.TheImpl as rows
 use Rattle.log_summary.specs.contracts.key.AbortKeyOrd.TheImpl as aborts
@@ -77,12 +78,16 @@ lost_of l Unsound = l.unsound
 lost_of l TooLong = l.too_long
 lost_of l EndOfLog = l.end_of_log
 
+-- the count of a reason, if it isn't 0
+abbrev pub counted_for : Reason → ℕ → List ReasonCount
+counted_for reason n = if n == 0 then [] else (record { reason = reason; count = n }) ∷ []
+
 -- the count of a cause, if messages are lost for it
-abbrev pub lost_for : Losses → Cause → List LossCount
-lost_for l cause = if lost_of l cause == 0 then [] else (record { cause = cause; count = lost_of l cause }) ∷ []
+abbrev pub lost_for : Losses → Cause → List ReasonCount
+lost_for l cause = counted_for (Loss cause) (lost_of l cause)
 
 -- the causes for which messages are lost, in the order of their words
-abbrev pub losses_of : Row → List LossCount
+abbrev pub losses_of : Row → List ReasonCount
 losses_of r = flat_map (lost_for r.losses) (Acknowledged ∷ EndOfLog ∷ Missing ∷ Replaced ∷ WentBack ∷ TimedOut ∷ TooLong ∷ Unsound ∷ [])
 
 -- how long a message took, from its first frame to its last, in microseconds
@@ -169,14 +174,14 @@ abbrev pub rows_of : Summary → List Row
 rows_of s = values_of s.rows
 
 -- the count of a reason, if messages of the row were aborted for it
-abbrev pub aborts_for : RowKey → List (AbortKey × ℕ) → (reason : ℕ) → List AbortCount
-aborts_for row aborts reason = if aborted row reason aborts == 0 then [] else (record { reason = reason; count = aborted row reason aborts }) ∷ []
+abbrev pub aborts_for : RowKey → List (AbortKey × ℕ) → (reason : ℕ) → List ReasonCount
+aborts_for row aborts reason = counted_for (Abort reason) (aborted row reason aborts)
 
 -- the counts of the reasons below a number, in their order
-unfoldable pub aborts_below : RowKey → List (AbortKey × ℕ) → ℕ → List AbortCount
+unfoldable pub aborts_below : RowKey → List (AbortKey × ℕ) → ℕ → List ReasonCount
 aborts_below row aborts zero = []
 aborts_below row aborts (suc n) = aborts_below row aborts n ++ aborts_for row aborts n
 
 -- the counts of all reasons of a row
-abbrev pub aborts_of : Row → Summary → List AbortCount
+abbrev pub aborts_of : Row → Summary → List ReasonCount
 aborts_of r s = aborts_below (row_key r.iface r.pgn r.from r.to) s.aborts 256

@@ -14,6 +14,6 @@ mod summary;
 
 pub use counts::Counts;
 pub use options::{Options, Wanted};
-pub use row::{LossCount, Losses, Row};
+pub use row::{Losses, Reason, ReasonCount, Row};
 pub use strays::Strays;
-pub use summary::{AbortCount, Summary};
+pub use summary::Summary;

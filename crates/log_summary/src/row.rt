@@ -1,6 +1,6 @@
 //! The messages of a PGN between two nodes, and how they ended.
 ghost use Rattle.std.specs.Prelude.{◌≡◌, ◌++◌, OnOk, IfOk, flat_map};
-ghost use Rattle.log_summary.specs.Rows.{new_row, no_losses, with_loss, lost_of, lost_for, losses_of, with_given, with_course, with_end, with_told, mean_of, share_of};
+ghost use Rattle.log_summary.specs.Rows.{new_row, no_losses, with_loss, lost_of, counted_for, lost_for, losses_of, with_given, with_course, with_end, with_told, mean_of, share_of};
 
 use crate::counts::more;
 use log_courses::Course;
@@ -47,11 +47,34 @@ pub struct Row {
     pub losses: Losses,
 }
 
-/// How many messages are lost for a cause.
+/// Why messages weren't given.
 #[derive(Clone, Copy)]
-pub struct LossCount {
-    pub cause: Cause,
+pub enum Reason {
+    /// They were aborted, for the reason with this byte.
+    Abort(u8),
+    /// They are lost.
+    Loss(Cause),
+}
+
+/// How many messages weren't given for a reason.
+#[derive(Clone, Copy)]
+pub struct ReasonCount {
+    pub reason: Reason,
     pub count: u64,
+}
+
+/// Puts a count if it isn't 0.
+pub(crate) fn put_count(
+    found: &mut Vec<ReasonCount>,
+    reason: Reason,
+    count: u64,
+) -> Result<(), AllocError>
+    ensures { OnOk result (found.new.items ≡ found.old.items ++ counted_for reason count) }
+{
+    if count != 0 {
+        found.push(ReasonCount { reason, count })?;
+    }
+    Ok(())
 }
 
 /// The causes, in the order of their words.
@@ -112,23 +135,12 @@ impl Losses {
         }
     }
 
-    /// Puts the count of a cause if messages are lost for it.
-    fn put(&self, found: &mut Vec<LossCount>, cause: Cause) -> Result<(), AllocError>
-        ensures { OnOk result (found.new.items ≡ found.old.items ++ lost_for self.now cause) }
-    {
-        let count = self.of(cause);
-        if count != 0 {
-            found.push(LossCount { cause, count })?;
-        }
-        Ok(())
-    }
-
-    fn list(&self, alloc: Global, causes: &[Cause]) -> Result<Vec<LossCount>, AllocError>
+    fn list(&self, alloc: Global, causes: &[Cause]) -> Result<Vec<ReasonCount>, AllocError>
         ensures { IfOk result (λ found. found.items ≡ flat_map (lost_for self.now) causes.now) }
     {
         let mut found = Vec::new(alloc);
         for cause in causes {
-            self.put(&mut found, *cause)?;
+            put_count(&mut found, Reason::Loss(*cause), self.of(*cause))?;
         }
         Ok(found)
     }
@@ -190,7 +202,7 @@ impl Row {
     }
 
     /// The causes for which messages are lost, in the order of their words. It fails only if memory is refused.
-    pub fn lost(&self, alloc: Global) -> Result<Vec<LossCount>, AllocError>
+    pub fn lost(&self, alloc: Global) -> Result<Vec<ReasonCount>, AllocError>
         ensures { IfOk result (λ lost. lost.items ≡ losses_of self.now) }
     {
         self.losses.list(alloc, &CAUSES)

@@ -1,24 +1,17 @@
 //! The rows of a log.
-ghost use Rattle.std.specs.Prelude.{◌≡◌, ◌≤◌, ◌++◌, OnOk, OnErr, IfOk, IsSome};
+ghost use Rattle.std.specs.Prelude.{◌≡◌, ◌≤◌, OnOk, OnErr, IfOk, IsSome};
 ghost use Rattle.std.specs.List.Sorted.{IsStrictlySortedBy};
 ghost use Rattle.std.specs.Map.{keys_of};
-ghost use Rattle.log_summary.specs.Rows.{by_row, row_at, put_back, row_told, aborts_told, aborted, aborts_for, aborts_below, frames_named, frames_on, no_summary, with_frame, with_message, rows_of, aborts_of};
+ghost use Rattle.log_summary.specs.Rows.{by_row, row_at, put_back, row_told, aborts_told, aborted, aborts_below, frames_named, frames_on, no_summary, with_frame, with_message, rows_of, aborts_of};
 
 use crate::key::{AbortKey, Name, RowKey};
-use crate::row::Row;
+use crate::row::{Reason, ReasonCount, Row, put_count};
 use log_courses::Course;
 use log_fields::Iface;
 use log_reports::{Told, key_told, pgn_told};
 use std::alloc::{AllocError, Global};
 use std::collections::BTreeMap;
 use std::marker::Model;
-
-/// How often messages were aborted for the reason with this byte.
-#[derive(Clone, Copy)]
-pub struct AbortCount {
-    pub reason: u8,
-    pub count: u64,
-}
 
 /// The messages of a log and how they ended. A number that would pass 2^64 - 1 stays there.
 pub struct Summary {
@@ -165,40 +158,25 @@ impl Summary {
         self.aborts.get(&key).copied().unwrap_or(0)
     }
 
-    /// Puts the count of a reason if messages of a row were aborted for it.
-    fn put_aborts(
-        &self,
-        found: &mut Vec<AbortCount>,
-        row: RowKey,
-        reason: u8,
-    ) -> Result<(), AllocError>
-        ensures { OnOk result (found.new.items ≡ found.old.items ++ aborts_for row self.now.aborts reason) }
-    {
-        let count = self.aborted(row, reason);
-        if count != 0 {
-            found.push(AbortCount { reason, count })?;
-        }
-        Ok(())
-    }
-
     fn aborts_below(
         &self,
         alloc: Global,
         row: RowKey,
         end: u16,
-    ) -> Result<Vec<AbortCount>, AllocError>
+    ) -> Result<Vec<ReasonCount>, AllocError>
         requires { end ≤ 256 }
         ensures { IfOk result (λ found. found.items ≡ aborts_below row self.now.aborts end) }
     {
         let mut found = Vec::new(alloc);
         for at in 0..end {
-            self.put_aborts(&mut found, row, at as u8)?;
+            let reason = at as u8;
+            put_count(&mut found, Reason::Abort(reason), self.aborted(row, reason))?;
         }
         Ok(found)
     }
 
     /// The reasons for which messages of a row were aborted, from the lowest on.
-    pub fn aborts(&self, alloc: Global, row: &Row) -> Result<Vec<AbortCount>, AllocError>
+    pub fn aborts(&self, alloc: Global, row: &Row) -> Result<Vec<ReasonCount>, AllocError>
         ensures { IfOk result (λ aborts. aborts.items ≡ aborts_of row.now self.now) }
     {
         let key = RowKey::of(row.iface, row.pgn, row.from, row.to);

@@ -1,10 +1,15 @@
-use Rattle.log_lines.proofs.Behind.{line_put_by, behind_marks}
-use Rattle.log_lines.specs.Json.{aborted_members}
+use Rattle.std.proofs.Common.{◌∷◌, codes}
+use Rattle.json.specs.Print.{escape_byte}
+use Rattle.log_lines.specs.Json.{place_object, aborted_members, abort_members}
+use Rattle.log_lines.specs.Objects.{count_of, key_text, member_text}
+use Rattle.log_lines.proofs.Appends.{marks_put}
 use Rattle.log_lines.proofs.objects.put_aborted.Goals as goal
 
 pub returns : goal.returns
-unfolding aborted_members
+unfolding aborted_members member_text key_text escape_byte
 returns c =
-    line_put_by c.put_rest.result c.args.out.now.items _ _ _ (aborted_members c.args.detail c.args.now c.args.course.now c.args.key.now c.args.pgn c.args.reason c.args.who) _
-    c.in_ok-put_text.ensures c.in_ok-put_number.ensures c.put_rest.ensures
-    (rw c.from.ensures (behind_marks _ _ c.args.detail c.args.course.now.marks _))
+    let course = c.args.course.now in
+    marks_put c.put_each.result c.args.out.now.items c.put_each.new.out.items (codes "again", count_of course.again) (codes "by", count_of c.args.who.0) (codes "first", place_object course.first)
+    c.args.detail course.marks
+    ((codes "from", count_of c.args.key.now.from.0) ∷ abort_members c.args.now course c.args.key.now c.args.pgn c.args.reason)
+    c.put_each.ensures

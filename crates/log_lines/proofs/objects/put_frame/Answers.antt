@@ -1,9 +1,15 @@
-use Rattle.log_lines.proofs.Behind.{line_put_by, behind_lines}
-use Rattle.log_lines.specs.Json.{frame_members}
+use Rattle.std.proofs.Common.{codes}
+use Rattle.json.specs.Print.{escape_byte}
+use Rattle.serde_json.specs.Data.{string}
+use Rattle.text_digits.specs.Digits.{unspaced}
+use Rattle.log_lines.specs.Json.{frame_rest}
+use Rattle.log_lines.specs.Objects.{key_text, member_text}
+use Rattle.log_lines.proofs.Appends.{lines_put}
 use Rattle.log_lines.proofs.objects.put_frame.Goals as goal
 
 pub returns : goal.returns
+unfolding member_text key_text escape_byte
 returns c =
-    line_put_by c.put_rest.result c.args.out.now.items _ _ _ (frame_members c.args.now c.args.iface c.args.explained.now c.args.from c.args.to c.args.pgn c.args.bytes.now) _
-    c.in_ok-put_text.ensures c.in_ok-put_hex.ensures c.put_rest.ensures
-    (behind_lines c.args.explained.now _)
+    lines_put c.put_each.result c.args.out.now.items c.put_each.new.out.items (codes "data", string (unspaced c.args.bytes.now)) c.args.explained.now
+    (frame_rest c.args.now c.args.iface c.args.from c.args.to c.args.pgn c.args.bytes.now)
+    c.put_each.ensures

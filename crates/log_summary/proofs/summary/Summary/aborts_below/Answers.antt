@@ -8,4 +8,4 @@ loop-at-init c = search rules
 
 pub loop-at-preserved : goal.loop-at-preserved
 unfolding aborts_below
-loop-at-preserved c = rw add-one (c.in_ok-put_aborts.ensures ∙ ap (λ s. s ++ aborts_for c.args.row c.args.self.now.aborts c.loop-at.at) c.loop-at.invariant)
+loop-at-preserved c = rw add-one ((rw c.aborted.ensures at c.in_ok-put_count.ensures) ∙ ap (λ s. s ++ aborts_for c.args.row c.args.self.now.aborts c.loop-at.at) c.loop-at.invariant)

@@ -1,0 +1,6 @@
+use Rattle.json.specs.Print.{escape_byte}
+use Rattle.log_lines.proofs.members.put_place.Goals as goal
+
+pub returns : goal.returns
+unfolding escape_byte
+returns c = c.put_each.ensures
