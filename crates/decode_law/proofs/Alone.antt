@@ -3,13 +3,13 @@ use Rattle.std.proofs.Common.{◌≡◌, ℕ, List, [], ◌∷◌, max, true, fa
 use Rattle.std.proofs.lemmas.List.{append-nil}
 use Rattle.pgn_ids.specs.Pgn.{clean}
 use Rattle.seg_cut.specs.Join.{is_complete}
-use Rattle.log_sessions.specs.Session.{is_silent}
+use Rattle.log_decode.specs.Session.{is_silent}
 use Rattle.log_decode.specs.Sessions.{Heard, heard_at, losses, silenced, broken_off}
 use Rattle.log_decode.specs.Decoder.{goes_back, passed}
 use Rattle.log_reports.specs.declared.key.Key.{Key}
-use Rattle.log_sessions.specs.declared.session.Session.{Session}
-use Rattle.log_sessions.specs.declared.session.Fate.{Fate}
-use Rattle.log_sessions.specs.declared.session.Fate.TheVariants as fates
+use Rattle.log_decode.specs.declared.session.Session.{Session}
+use Rattle.log_decode.specs.declared.session.Fate.{Fate}
+use Rattle.log_decode.specs.declared.session.Fate.TheVariants as fates
 use Rattle.log_reports.specs.declared.told.Cause.{Cause}
 use Rattle.log_reports.specs.declared.told.Cause.TheVariants.{WentBack, TimedOut}
 use Rattle.log_reports.specs.declared.told.Told.{Told}

@@ -4,7 +4,7 @@ use Rattle.std.specs.Prelude.{nat_le}
 use Rattle.std.proofs.lemmas.Bool.{le-leb, le-ltb, eq-eqb}
 use Rattle.tp_wire.specs.declared.constants.TheConstants.{MIN_SIZE, TP_MAX_SIZE, ETP_MAX_SIZE}
 use Rattle.seg_cut.specs.Packets.{packet_count}
-use Rattle.log_sessions.specs.Session.{opened}
+use Rattle.log_decode.specs.Session.{opened}
 use Rattle.log_decode.specs.Sessions.{Sessions, session_at, ended_at, is_again_at, announced}
 use Rattle.log_decode.specs.Decoder.{tp_news, etp_news}
 use Rattle.log_reports.specs.declared.key.Key.{Key}

@@ -16,7 +16,7 @@ use Rattle.seg_cut.specs.Packets.{packet_count, packet}
 use Rattle.lane_core.specs.Lane.{kind_for}
 use Rattle.lane_core.specs.declared.message.Pending.{Pending}
 use Rattle.segment_law.specs.Quiet.{quiet, quiet_broadcast, quiet_connection, is_to_all}
-use Rattle.log_sessions.specs.Session.{opened}
+use Rattle.log_decode.specs.Session.{opened}
 use Rattle.log_decode.specs.Sessions.{session_at}
 use Rattle.log_decode.specs.Decoder.{frame_taken, cm_frame_taken, wire_taken}
 use Rattle.log_decode.specs.View.{Bus, State, bus_at}

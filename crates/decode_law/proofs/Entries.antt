@@ -5,10 +5,10 @@ use Rattle.std.proofs.lemmas.List.Elements.{All-head, All-tail, All-append, All-
 use Rattle.std.proofs.lemmas.Bool.{lt-leb}
 use Rattle.log_reports.specs.contracts.key.KeyEq.TheImpl.Laws.{laws-law}
 use Rattle.log_reports.specs.Keys.{same_key}
-use Rattle.log_sessions.specs.Session.{patience, is_silent}
+use Rattle.log_decode.specs.Session.{patience, is_silent}
 use Rattle.log_decode.specs.Sessions.{Sessions, session_at, put, without, silent_entry, silenced}
 use Rattle.log_reports.specs.declared.key.Key.{Key}
-use Rattle.log_sessions.specs.declared.session.Session.{Session}
+use Rattle.log_decode.specs.declared.session.Session.{Session}
 use Rattle.log_reports.specs.declared.told.Told.{Told}
 use Rattle.log_decode.proofs.Due.{patience_least}
 use Rattle.decode_law.specs.Hearing.{NoneSilent}

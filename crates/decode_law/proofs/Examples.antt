@@ -10,7 +10,7 @@ use Rattle.segment_law.specs.Quiet.{quiet}
 use Rattle.tp_wire.specs.Reading.{reading, body_of, tp_cm_of, packet_of}
 use Rattle.tp_wire.specs.Rows.{written}
 use Rattle.log_decode.specs.Decoder.{wire_taken, cm_frame_taken}
-use Rattle.log_sessions.specs.Session.{packet_heard}
+use Rattle.log_decode.specs.Session.{packet_heard}
 use Rattle.log_decode.specs.Belonging.{told_of_key}
 use Rattle.log_decode.specs.View.{State}
 use Rattle.log_reports.specs.declared.key.Key.{Key}

@@ -10,10 +10,10 @@ use Rattle.tp_wire.specs.declared.wire.Wire.{Wire}
 use Rattle.tp_wire.specs.declared.wire.Wire.TheVariants.{Packet}
 use Rattle.seg_cut.specs.Packets.{packet_count, packet}
 use Rattle.seg_cut.specs.Join.{Join, IsFrontOf, joined, wants, is_complete}
-use Rattle.log_sessions.specs.Session.{roomy, accepted, packet_heard, is_within, sequence_heard, given_of}
+use Rattle.log_decode.specs.Session.{roomy, accepted, packet_heard, is_within, sequence_heard, given_of}
 use Rattle.log_decode.specs.Sessions.{Heard, session_at, put, without, settled, packet_taken}
 use Rattle.log_decode.specs.Decoder.{wire_taken, frame_taken}
-use Rattle.log_sessions.specs.declared.session.Session.{Session}
+use Rattle.log_decode.specs.declared.session.Session.{Session}
 use Rattle.log_reports.specs.declared.told.Told.{Told}
 use Rattle.log_reports.specs.declared.told.Told.TheVariants.{Given}
 use Rattle.log_decode.proofs.AtKey.{by_session}

@@ -8,11 +8,11 @@ use Rattle.pgn_ids.specs.declared.address.Address.{Address}
 use Rattle.tp_wire.specs.declared.wire.CmFrame.TheVariants.{Cts, EndOfMsgAck, EtpCts, EtpDpo, EtpEoma}
 use Rattle.seg_cut.specs.Packets.{packet_count, packet}
 use Rattle.seg_cut.specs.Join.{Join, IsFrontOf, joined, wants, is_complete}
-use Rattle.log_sessions.specs.Session.{roomy, accepted, renewed, packet_heard, is_within, sequence_heard, heard}
+use Rattle.log_decode.specs.Session.{roomy, accepted, renewed, packet_heard, is_within, sequence_heard, heard}
 use Rattle.log_reports.specs.declared.key.Key.{Key}
-use Rattle.log_sessions.specs.declared.session.Session.{Session}
-use Rattle.log_sessions.specs.declared.session.Fate.{Fate}
-use Rattle.log_sessions.specs.declared.session.Fate.TheVariants as fates
+use Rattle.log_decode.specs.declared.session.Session.{Session}
+use Rattle.log_decode.specs.declared.session.Fate.{Fate}
+use Rattle.log_decode.specs.declared.session.Fate.TheVariants as fates
 use Rattle.log_reports.specs.declared.told.Cause.TheVariants.{Missing, Acknowledged}
 use Rattle.decode_law.proofs.Steps.{Laws, roomy_front, roomy_next, roomy_size}
 use Rattle.decode_law.proofs.Alone.{IsOf, Comes}

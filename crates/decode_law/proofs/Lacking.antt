@@ -20,13 +20,13 @@ use Rattle.seg_cut.specs.Packets.{packet_count, packet}
 use Rattle.lane_core.specs.Lane.{kind_for}
 use Rattle.lane_core.specs.declared.message.Pending.{Pending}
 use Rattle.segment_law.specs.Quiet.{quiet, quiet_broadcast, quiet_connection, is_to_all, groups, tp_window, etp_window}
-use Rattle.log_sessions.specs.Session.{opened, sequence_heard, heard}
+use Rattle.log_decode.specs.Session.{opened, sequence_heard, heard}
 use Rattle.log_decode.specs.Sessions.{Heard, heard_at, losses, announced}
 use Rattle.log_decode.specs.Decoder.{frame_taken, cm_frame_taken, wire_taken, passed}
 use Rattle.log_reports.specs.declared.key.Key.{Key}
-use Rattle.log_sessions.specs.declared.session.Session.{Session}
-use Rattle.log_sessions.specs.declared.session.Fate.{Fate}
-use Rattle.log_sessions.specs.declared.session.Fate.TheVariants as fates
+use Rattle.log_decode.specs.declared.session.Session.{Session}
+use Rattle.log_decode.specs.declared.session.Fate.{Fate}
+use Rattle.log_decode.specs.declared.session.Fate.TheVariants as fates
 use Rattle.log_reports.specs.declared.told.Cause.TheVariants.{TooLong, EndOfLog}
 use Rattle.log_reports.specs.declared.told.Told.TheVariants.{Lost}
 use Rattle.log_decode.proofs.Own.{of_own, own_heard, own_announced}

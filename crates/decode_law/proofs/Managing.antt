@@ -8,10 +8,10 @@ use Rattle.tp_wire.specs.declared.wire.Kind.TheVariants.{Tp, Etp}
 use Rattle.tp_wire.specs.declared.wire.CmFrame.{CmFrame}
 use Rattle.tp_wire.specs.declared.wire.CmFrame.TheVariants.{Cts, EndOfMsgAck, EtpCts, EtpDpo, EtpEoma}
 use Rattle.tp_wire.specs.declared.wire.Wire.TheVariants.{Cm}
-use Rattle.log_sessions.specs.Session.{renewed, heard}
+use Rattle.log_decode.specs.Session.{renewed, heard}
 use Rattle.log_decode.specs.Sessions.{Heard, put, settled, cm_taken}
 use Rattle.log_decode.specs.Decoder.{cm_frame_taken, wire_taken, frame_taken}
-use Rattle.log_sessions.specs.declared.session.Session.{Session}
+use Rattle.log_decode.specs.declared.session.Session.{Session}
 use Rattle.log_reports.specs.declared.told.Told.{Told}
 use Rattle.log_decode.proofs.AtKey.{by_session}
 use Rattle.decode_law.proofs.Entries.{found, put_again}

@@ -15,12 +15,12 @@ use Rattle.seg_cut.specs.Packets.{packet_count, packet}
 use Rattle.seg_cut.specs.Join.{Join, IsFrontOf, joined, is_complete, with_room}
 use Rattle.lane_core.specs.declared.message.Pending.{Pending}
 use Rattle.log_reports.specs.Keys.{transport_of}
-use Rattle.log_sessions.specs.Session.{patience, first_window, opened, roomy}
+use Rattle.log_decode.specs.Session.{patience, first_window, opened, roomy}
 use Rattle.log_decode.specs.Sessions.{Sessions, Heard, session_at, silenced, broken_off}
 use Rattle.log_decode.specs.Decoder.{frame_taken, goes_back, now_at, passed, bus_taken}
 use Rattle.log_decode.specs.View.{Bus}
 use Rattle.log_reports.specs.declared.key.Key.{Key}
-use Rattle.log_sessions.specs.declared.session.Session.{Session}
+use Rattle.log_decode.specs.declared.session.Session.{Session}
 use Rattle.log_reports.specs.declared.told.Told.{Told}
 use Rattle.log_reports.specs.declared.told.Told.TheVariants.{Given}
 use Rattle.decode_law.specs.Hearing.{Log, frames_in, end_of, ComeWithin, ComeInTime, NoneSilent, IsSendable}

@@ -14,7 +14,7 @@ use Rattle.log_decode.specs.Sessions.{Sessions, Heard, session_at, losses}
 use Rattle.log_decode.specs.Decoder.{frame_taken, now_at, passed, taken, ended}
 use Rattle.log_decode.specs.View.{Bus, Buses, State, new_bus, bus_at, put_bus}
 use Rattle.log_reports.specs.declared.key.Key.{Key}
-use Rattle.log_sessions.specs.declared.session.Fate.TheVariants as fates
+use Rattle.log_decode.specs.declared.session.Fate.TheVariants as fates
 use Rattle.log_reports.specs.declared.told.Cause.TheVariants.{EndOfLog}
 use Rattle.log_reports.specs.declared.told.Told.{Told}
 use Rattle.log_decode.proofs.Own.{own, of_own, own_passed, of_append, of_losses}

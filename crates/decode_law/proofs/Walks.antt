@@ -7,7 +7,7 @@ use Rattle.bus_frame.specs.Frames.{CanFrame}
 use Rattle.tp_wire.specs.Rows.{written}
 use Rattle.tp_wire.specs.declared.wire.Wire.TheVariants.{Packet}
 use Rattle.seg_cut.specs.Packets.{packet}
-use Rattle.log_sessions.specs.Session.{is_within}
+use Rattle.log_decode.specs.Session.{is_within}
 use Rattle.decode_law.proofs.Steps.{Laws, Case, last, Place, Stands, Over}
 use Rattle.decode_law.proofs.Frames.{packet_goes, packet_ends}
 

@@ -11,7 +11,7 @@ use Rattle.tp_wire.specs.declared.wire.CmFrame.TheVariants.{Cts, EtpCts, EtpDpo}
 use Rattle.tp_wire.specs.declared.wire.Wire.TheVariants.{Cm, Packet}
 use Rattle.seg_cut.specs.Packets.{packet}
 use Rattle.segment_law.specs.Quiet.{groups, tp_window, etp_window}
-use Rattle.log_sessions.specs.Session.{is_within}
+use Rattle.log_decode.specs.Session.{is_within}
 use Rattle.decode_law.proofs.Steps.{Laws, Case, last, Place, first_place, Stands, Over, step}
 use Rattle.decode_law.proofs.Walks.{packets_go, packets_end, windows_end}
 use Rattle.decode_law.proofs.Managing.{cts_goes, etp_cts_goes, dpo_goes}

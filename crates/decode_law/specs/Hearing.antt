@@ -16,7 +16,7 @@ use Rattle.segment_law.specs.Record.{Record, StandsAt}
 use Rattle.segment_law.specs.Drive.{driven}
 use Rattle.segment_law.specs.Quiet.{is_to_all, quiet, IsQuiet}
 use Rattle.log_reports.specs.Keys.{transport_of}
-use Rattle.log_sessions.specs.Session.{patience, is_silent}
+use Rattle.log_decode.specs.Session.{patience, is_silent}
 use Rattle.log_decode.specs.Sessions.{Sessions, session_at}
 use Rattle.log_decode.specs.Decoder.{taken}
 use Rattle.log_decode.specs.View.{State, bus_at, put_bus}

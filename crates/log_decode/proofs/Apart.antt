@@ -18,14 +18,14 @@ use Rattle.log_reports.specs.contracts.key.KeyEq.TheImpl.Laws.{laws-law}
 use Rattle.log_reports.specs.Keys.{same_key, same_iface}
 use Rattle.log_decode.specs.Ways.{key_of, key_back}
 use Rattle.log_decode.specs.Belonging.{keys_of_cm, keys_of, is_frame_of, told_of_key}
-use Rattle.log_sessions.specs.Session.{told_of, opened, renewed, heard, sequence_heard, abort_heard}
+use Rattle.log_decode.specs.Session.{told_of, opened, renewed, heard, sequence_heard, abort_heard}
 use Rattle.log_decode.specs.Sessions.{Sessions, Heard, session_at, put, without, ended_at, settled, heard_at, renewed_at, is_again_at, is_of, not_begun, opened_at, announced, abort_taken}
 use Rattle.log_decode.specs.Decoder.{tp_news, etp_news, both_aborted, aborted, cm_frame_taken, wire_taken, frame_taken}
 use Rattle.log_reports.specs.declared.key.Key.{Key}
 use Rattle.log_decode.specs.declared.way.Way.{Way}
-use Rattle.log_sessions.specs.declared.session.Session.{Session}
-use Rattle.log_sessions.specs.declared.session.Fate.{Fate}
-use Rattle.log_sessions.specs.declared.session.Fate.TheVariants as fates
+use Rattle.log_decode.specs.declared.session.Session.{Session}
+use Rattle.log_decode.specs.declared.session.Fate.{Fate}
+use Rattle.log_decode.specs.declared.session.Fate.TheVariants as fates
 use Rattle.log_decode.specs.declared.sessions.News.{News}
 use Rattle.log_reports.specs.declared.told.Cause.{Cause}
 use Rattle.log_reports.specs.declared.told.Cause.TheVariants.{Replaced, Unsound, TooLong}

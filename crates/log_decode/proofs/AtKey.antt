@@ -6,10 +6,10 @@ use Rattle.indexmap.proofs.MapLemmas.{Found-position, Missing-position, insert_e
 use Rattle.pgn_ids.specs.Pgn.{clean}
 use Rattle.log_reports.specs.Keys.{same_key}
 use Rattle.log_decode.specs.Sessions.{Sessions, Heard, session_at, put, settled, heard_at, renewed_at}
-use Rattle.log_sessions.specs.Session.{renewed}
+use Rattle.log_decode.specs.Session.{renewed}
 use Rattle.log_reports.specs.declared.key.Key.{Key}
-use Rattle.log_sessions.specs.declared.session.Session.{Session}
-use Rattle.log_sessions.specs.declared.session.Fate.{Fate}
+use Rattle.log_decode.specs.declared.session.Session.{Session}
+use Rattle.log_decode.specs.declared.session.Fate.{Fate}
 use Rattle.log_decode.specs.Stray.{packet_stray, cm_stray}
 use Rattle.log_reports.specs.declared.stray.Stray.{Stray}
 use Rattle.log_reports.specs.declared.stray.Stray.TheVariants.{Packet}

@@ -10,7 +10,7 @@ use Rattle.log_reports.specs.Keys.{same_iface}
 use Rattle.log_decode.specs.Sessions.{losses}
 use Rattle.log_decode.specs.View.{Bus, Buses, State, new_bus, bus_at, put_bus}
 use Rattle.log_decode.specs.Decoder.{bus_taken, taken, ended}
-use Rattle.log_sessions.specs.declared.session.Fate.TheVariants.{Lost}
+use Rattle.log_decode.specs.declared.session.Fate.TheVariants.{Lost}
 use Rattle.log_reports.specs.declared.told.Cause.TheVariants.{EndOfLog}
 use Rattle.log_reports.specs.declared.told.Told.{Told}
 use Rattle.log_decode.proofs.Silences.{same_some, none_is_some}

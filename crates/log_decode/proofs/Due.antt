@@ -5,13 +5,13 @@ use Rattle.std.proofs.lemmas.List.{take_all, append-nil}
 use Rattle.pgn_ids.specs.Address.{global_address}
 use Rattle.pgn_ids.specs.declared.address.Address.{Address}
 use Rattle.tick_timers.specs.declared.durations.TheConstants.{T1}
-use Rattle.log_sessions.specs.Session.{patience}
+use Rattle.log_decode.specs.Session.{patience}
 use Rattle.log_decode.specs.Sessions.{Sessions, silent_entry, losses, silenced}
 use Rattle.log_decode.specs.Due.{NoneDueBefore}
 use Rattle.log_reports.specs.declared.key.Key.{Key}
-use Rattle.log_sessions.specs.declared.session.Session.{Session}
-use Rattle.log_sessions.specs.declared.session.TheConstants.{CONNECTION_PATIENCE}
-use Rattle.log_sessions.specs.declared.session.Fate.TheVariants.{Lost}
+use Rattle.log_decode.specs.declared.session.Session.{Session}
+use Rattle.log_decode.specs.declared.session.TheConstants.{CONNECTION_PATIENCE}
+use Rattle.log_decode.specs.declared.session.Fate.TheVariants.{Lost}
 use Rattle.log_reports.specs.declared.told.Cause.TheVariants.{TimedOut}
 use Rattle.log_reports.specs.declared.told.Told.{Told}
 use Rattle.log_decode.proofs.Silences.{same_some}

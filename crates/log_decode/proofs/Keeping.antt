@@ -18,15 +18,15 @@ use Rattle.tp_wire.specs.declared.wire.Wire.{Wire}
 use Rattle.tp_wire.specs.declared.wire.Wire.TheVariants.{Cm, Packet, Request, Ack}
 use Rattle.log_reports.specs.Keys.{same_key}
 use Rattle.log_decode.specs.Ways.{key_of, key_back}
-use Rattle.log_sessions.specs.Session.{opened, accepted, renewed, roomy, packet_heard, is_within, sequence_heard, cm_heard, heard, abort_heard, told_of, patience}
+use Rattle.log_decode.specs.Session.{opened, accepted, renewed, roomy, packet_heard, is_within, sequence_heard, cm_heard, heard, abort_heard, told_of, patience}
 use Rattle.log_decode.specs.Sessions.{Sessions, Heard, session_at, put, without, ended_at, settled, heard_at, packet_taken, cm_taken, abort_taken, renewed_at, is_again_at, is_of, opened_at, announced}
 use Rattle.log_decode.specs.Decoder.{tp_news, etp_news, both_aborted, aborted, cm_frame_taken, wire_taken, frame_taken}
 use Rattle.log_decode.specs.Due.{NoneDueBefore}
 use Rattle.log_reports.specs.declared.key.Key.{Key}
 use Rattle.log_decode.specs.declared.way.Way.{Way}
-use Rattle.log_sessions.specs.declared.session.Session.{Session}
-use Rattle.log_sessions.specs.declared.session.Fate.{Fate}
-use Rattle.log_sessions.specs.declared.session.Fate.TheVariants as fates
+use Rattle.log_decode.specs.declared.session.Session.{Session}
+use Rattle.log_decode.specs.declared.session.Fate.{Fate}
+use Rattle.log_decode.specs.declared.session.Fate.TheVariants as fates
 use Rattle.log_decode.specs.declared.sessions.News.{News}
 use Rattle.log_reports.specs.declared.told.Cause.TheVariants.{Missing, Replaced, Unsound, TooLong}
 use Rattle.log_reports.specs.declared.told.Told.TheVariants.{Lost, Aborted}

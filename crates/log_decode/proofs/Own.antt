@@ -7,13 +7,13 @@ use Rattle.pgn_ids.specs.Pgn.{clean}
 use Rattle.seg_cut.specs.Join.{is_complete}
 use Rattle.log_reports.specs.contracts.key.KeyEq.TheImpl.Laws.{laws-law}
 use Rattle.log_reports.specs.Keys.{same_key}
-use Rattle.log_sessions.specs.Session.{told_of, opened, renewed, is_again}
+use Rattle.log_decode.specs.Session.{told_of, opened, renewed, is_again}
 use Rattle.log_decode.specs.Sessions.{Sessions, Heard, session_at, put, without, ended_at, settled, heard_at, losses, silent_entry, silenced, broken_off, renewed_at, is_again_at, not_begun, opened_at, announced}
 use Rattle.log_decode.specs.Decoder.{goes_back, passed}
 use Rattle.log_reports.specs.declared.key.Key.{Key}
-use Rattle.log_sessions.specs.declared.session.Session.{Session}
-use Rattle.log_sessions.specs.declared.session.Fate.{Fate}
-use Rattle.log_sessions.specs.declared.session.Fate.TheVariants as fates
+use Rattle.log_decode.specs.declared.session.Session.{Session}
+use Rattle.log_decode.specs.declared.session.Fate.{Fate}
+use Rattle.log_decode.specs.declared.session.Fate.TheVariants as fates
 use Rattle.log_decode.specs.declared.sessions.News.{News}
 use Rattle.log_reports.specs.declared.told.Cause.{Cause}
 use Rattle.log_reports.specs.declared.told.Cause.TheVariants.{Replaced, TimedOut, WentBack, Unsound, TooLong}

@@ -2,12 +2,12 @@
 use Rattle.std.proofs.Common.{◌≡◌, ℕ, zero, suc, ◌+◌, List, [], ◌∷◌, ◌++◌, Bool, true, false, Option, Some, None, refl, sym, ◌∙◌, ap, append_assoc, arith, filter, slice_get, drop, drop_of_length-le, length, ◌≤◌, is_some, unwrap_or, true≢false, cond, if◌then◌else◌}
 use Rattle.std.specs.Prelude.{option_to_list}
 use Rattle.std.proofs.lemmas.List.{append-nil}
-use Rattle.log_sessions.specs.Session.{told_of}
+use Rattle.log_decode.specs.Session.{told_of}
 use Rattle.log_decode.specs.Sessions.{Sessions, silent_entry, losses}
 use Rattle.log_reports.specs.declared.key.Key.{Key}
-use Rattle.log_sessions.specs.declared.session.Session.{Session}
-use Rattle.log_sessions.specs.declared.session.Fate.{Fate}
-use Rattle.log_sessions.specs.declared.session.Fate.TheVariants.{Lost}
+use Rattle.log_decode.specs.declared.session.Session.{Session}
+use Rattle.log_decode.specs.declared.session.Fate.{Fate}
+use Rattle.log_decode.specs.declared.session.Fate.TheVariants.{Lost}
 use Rattle.log_reports.specs.declared.told.Cause.TheVariants.{TimedOut}
 use Rattle.log_reports.specs.declared.told.Told.{Told}
 

@@ -18,7 +18,7 @@ use Rattle.log_decode.specs.Sessions.{Heard, announced, cm_taken, packet_taken, 
 use Rattle.log_decode.specs.View.{Bus, Buses, State, bus_at, put_bus}
 use Rattle.log_decode.specs.declared.way.Way.{Way}
 use Rattle.log_decode.specs.declared.sessions.News.{News}
-use Rattle.log_sessions.specs.declared.session.Fate.TheVariants.{Lost}
+use Rattle.log_decode.specs.declared.session.Fate.TheVariants.{Lost}
 use Rattle.log_reports.specs.declared.told.Cause.TheVariants.{EndOfLog}
 use Rattle.log_reports.specs.declared.told.Told.{Told}
 use Rattle.log_reports.specs.declared.told.Told.TheVariants.{Aborted}

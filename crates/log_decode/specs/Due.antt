@@ -1,6 +1,6 @@
 -- When messages under way become silent.
 use Rattle.std.specs.Prelude.{ℕ, ◌+◌, ◌≤◌, [], ◌∷◌, ⊤}
-use Rattle.log_sessions.specs.Session.{patience}
+use Rattle.log_decode.specs.Session.{patience}
 use Rattle.log_decode.specs.Sessions.{Sessions}
 
 -- none of them before this time, in microseconds

@@ -1,4 +1,5 @@
 pub mod Ways
+pub mod Session
 pub mod Sessions
 pub mod Due
 pub mod View

@@ -1,5 +1,5 @@
 -- Frames of a transport that belong to no message under way.
-use Rattle.std.specs.Prelude.{ℕ, [], not, filter, if◌then◌else◌, max, Option, Some, None}
+use Rattle.std.specs.Prelude.{ℕ, [], if◌then◌else◌, Option, Some, None}
 use Rattle.bus_frame.specs.Frames.{CanFrame}
 use Rattle.log_fields.specs.declared.iface.Iface.{Iface}
 use Rattle.tp_wire.specs.Reading.{reading}
@@ -9,8 +9,8 @@ use Rattle.tp_wire.specs.declared.wire.CmFrame.TheVariants as frames
 use Rattle.tp_wire.specs.declared.wire.Wire.{Wire}
 use Rattle.tp_wire.specs.declared.wire.Wire.TheVariants as wires
 use Rattle.log_decode.specs.Ways.{key_of, key_back}
-use Rattle.log_decode.specs.Sessions.{Sessions, session_at, is_of, silent_entry}
-use Rattle.log_decode.specs.Decoder.{goes_back}
+use Rattle.log_decode.specs.Sessions.{Sessions, session_at, is_of}
+use Rattle.log_decode.specs.Decoder.{passed}
 use Rattle.log_decode.specs.View.{Bus, State, bus_at}
 use Rattle.log_reports.specs.declared.key.Key.{Key}
 use Rattle.log_decode.specs.declared.way.Way.{Way}
@@ -51,7 +51,7 @@ frame_stray iface frame sessions = elim (reading frame) [ None ↦ None | Some r
 
 -- the messages under way after time has advanced, or gone back
 abbrev pub left_at : (before time : ℕ) → Sessions → Sessions
-left_at before time sessions = if goes_back before time then [] else filter (λ e. not (silent_entry (max before time) e)) sessions
+left_at before time sessions = (passed before time (sessions, [])).0
 
 abbrev pub bus_stray : Bus → (time : ℕ) → Iface → CanFrame → Option Stray
 bus_stray b time iface frame = frame_stray iface frame (left_at b.time time b.sessions)

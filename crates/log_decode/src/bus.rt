@@ -5,17 +5,17 @@ ghost use Rattle.log_decode.specs.Due.{NoneDueBefore};
 ghost use Rattle.log_decode.specs.Stray.{left_at, bus_stray};
 ghost use Rattle.log_decode.specs.Sessions.{losses};
 ghost use Rattle.log_decode.specs.View.{new_bus};
-ghost use Rattle.log_sessions.specs.declared.session.Fate.TheVariants.{Lost};
+ghost use Rattle.log_decode.specs.declared.session.Fate.TheVariants.{Lost};
 ghost use Rattle.log_reports.specs.declared.told.Cause.TheVariants.{EndOfLog};
 
 use crate::frames::take_frame;
+use crate::session::soonest;
 use crate::sessions::{Sessions, tell_all};
 use crate::silence::end_due;
 use bus_frame::Frame;
 use indexmap::IndexMap;
 use log_fields::{Iface, LATE};
 use log_reports::{Cause, Stray, Told};
-use log_sessions::soonest;
 use std::alloc::{AllocError, Global};
 use std::marker::Model;
 

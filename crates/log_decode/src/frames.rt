@@ -1,14 +1,13 @@
 //! The reports on a frame of an interface.
 ghost use Rattle.std.specs.Prelude.{◌≡◌, None, OnOk, IfOk};
 ghost use Rattle.log_decode.specs.Decoder.{tp_news, etp_news, both_aborted, aborted, cm_frame_taken, wire_taken, frame_taken};
-ghost use Rattle.log_decode.specs.Sessions.{announced};
 ghost use Rattle.log_decode.specs.Stray.{cm_frame_stray, wire_stray, frame_stray};
 
 use crate::sessions::{News, Sessions, announce, is_of, take_abort, take_cm, take_packet};
 use crate::way::Way;
 use bus_frame::Frame;
 use log_fields::Iface;
-use log_reports::{Key, Stray, Told};
+use log_reports::{Stray, Told};
 use pgn_ids::WirePgn;
 use seg_cut::packets;
 use std::alloc::{AllocError, Global};
@@ -79,23 +78,6 @@ fn take_both(
     Ok(None)
 }
 
-/// An announcement, which belongs to its message.
-fn take_news(
-    alloc: Global,
-    sessions: &mut Sessions,
-    key: Key,
-    news: News,
-    most: u32,
-    now: u64,
-    told: &mut Vec<Told>,
-) -> Result<Option<Stray>, AllocError>
-    ensures told { OnOk result ((sessions.new.entries, told.new.items) ≡ announced key news most now (sessions.old.entries, told.old.items)) }
-    ensures stray { IfOk result (λ stray. stray ≡ None) }
-{
-    announce(alloc, sessions, key, news, most, now, told)?;
-    Ok(None)
-}
-
 /// A connection management frame. Answered is what it is if its message isn't under way.
 #[tactic(auto, unfolding(crate::specs::Decoder::cm_frame_taken, crate::specs::Stray::cm_frame_stray))]
 fn take_cm_frame(
@@ -118,7 +100,7 @@ fn take_cm_frame(
             ..
         } => {
             let news = tp_news(*pgn, *size, *packets);
-            take_news(alloc, sessions, way.key(Kind::Tp), news, most, now, told)
+            announce(alloc, sessions, way.key(Kind::Tp), news, most, now, told)
         }
         CmFrame::Cts { .. } => take_cm(
             sessions,
@@ -138,12 +120,12 @@ fn take_cm_frame(
         ),
         CmFrame::Bam { size, packets, pgn } => {
             let news = tp_news(*pgn, *size, *packets);
-            take_news(alloc, sessions, way.key(Kind::Tp), news, most, now, told)
+            announce(alloc, sessions, way.key(Kind::Tp), news, most, now, told)
         }
         CmFrame::Abort { reason, pgn } => take_both(sessions, way, Kind::Tp, *reason, *pgn, told),
         CmFrame::EtpRts { size, pgn } => {
             let news = etp_news(*pgn, *size);
-            take_news(alloc, sessions, way.key(Kind::Etp), news, most, now, told)
+            announce(alloc, sessions, way.key(Kind::Etp), news, most, now, told)
         }
         CmFrame::EtpCts { .. } => take_cm(
             sessions,

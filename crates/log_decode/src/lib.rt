@@ -10,8 +10,10 @@ mod bus;
 mod decoder;
 mod frames;
 mod places;
+mod session;
 mod sessions;
 mod silence;
 mod way;
 
 pub use decoder::Decoder;
+pub use session::{CONNECTION_PATIENCE, Fate, Session};

@@ -1,20 +1,27 @@
 //! The messages under way, in the order in which they were announced.
-ghost use Rattle.std.specs.Prelude.{◌≡◌, ◌++◌, None, Some, OnOk, IfOk, if◌then◌else◌, option_to_list};
-ghost use Rattle.log_decode.specs.Sessions.{settled, packet_taken, cm_taken, abort_taken, renewed_at, is_again_at, is_of, not_begun, opened_at, announced, losses};
-ghost use Rattle.log_sessions.specs.declared.session.Fate.TheVariants.{Lost};
+ghost use Rattle.std.specs.Prelude.{◌≡◌, ◌++◌, None, Some, OnOk, IfOk, if◌then◌else◌, option_map, option_to_list};
+ghost use Rattle.log_decode.specs.Sessions.{session_at, settled, packet_taken, cm_taken, abort_taken, renewed_at, is_again_at, is_of, not_begun, opened_at, announced, losses};
+ghost use Rattle.log_decode.specs.declared.session.Fate.TheVariants.{Lost};
 ghost use Rattle.log_decode.specs.Stray.{packet_stray, cm_stray};
 ghost use Rattle.tp_wire.specs.Rows.{cm_pgn};
 
 use crate::places::place_of;
+use crate::session::{Fate, Session};
 use indexmap::IndexMap;
 use log_reports::{Cause, Key, Stray, Told};
-use log_sessions::{Fate, Session};
 use pgn_ids::{Address, WirePgn};
 use std::alloc::{AllocError, Global};
 use tp_wire::CmFrame;
 
 /// The messages under way, in the order in which they were announced.
 pub(crate) type Sessions = IndexMap<Key, Session>;
+
+/// The message of a key.
+fn session_at<'a>(sessions: &'a Sessions, key: &Key) -> Option<&'a Session>
+    ensures { option_map (λ s. s.now) result ≡ session_at key.now sessions.now.entries }
+{
+    sessions.get(key)
+}
 
 /// Puts a report, if there is one, behind those before it.
 pub(crate) fn tell(told: &mut Vec<Told>, one: Option<Told>) -> Result<(), AllocError>
@@ -105,7 +112,7 @@ pub(crate) fn take_abort(
 ) -> Result<(), AllocError>
     ensures { OnOk result ((sessions.new.entries, told.new.items) ≡ abort_taken key who reason pgn (sessions.old.entries, told.old.items)) }
 {
-    let Some(session) = sessions.get(&key) else {
+    let Some(session) = session_at(sessions, &key) else {
         return Ok(());
     };
     let fate = session.hear_abort(who, reason, pgn);
@@ -116,7 +123,7 @@ pub(crate) fn take_abort(
 pub(crate) fn is_of(sessions: &Sessions, key: Key, pgn: WirePgn) -> bool
     ensures { result ≡ is_of key pgn sessions.now.entries }
 {
-    match sessions.get(&key) {
+    match session_at(sessions, &key) {
         None => false,
         Some(session) => session.is_of(pgn),
     }
@@ -126,7 +133,7 @@ pub(crate) fn is_of(sessions: &Sessions, key: Key, pgn: WirePgn) -> bool
 fn is_again(sessions: &Sessions, key: Key, pgn: WirePgn, size: u32) -> bool
     ensures { result ≡ is_again_at key pgn size sessions.now.entries }
 {
-    match sessions.get(&key) {
+    match session_at(sessions, &key) {
         None => false,
         Some(session) => session.is_again(pgn, size),
     }
@@ -137,7 +144,7 @@ fn renew(sessions: &mut Sessions, key: Key, now: u64)
     ensures { sessions.new.entries ≡ renewed_at key now sessions.old.entries }
 {
     if let Some(at) = place_of(sessions, &key) {
-        sessions[at].renew(now);
+        sessions[at].go_on(now);
     }
 }
 
@@ -187,7 +194,7 @@ fn begin(
     Ok(())
 }
 
-/// A message is announced.
+/// A message is announced. The frame belongs to it.
 pub(crate) fn announce(
     alloc: Global,
     sessions: &mut Sessions,
@@ -196,15 +203,17 @@ pub(crate) fn announce(
     most: u32,
     now: u64,
     told: &mut Vec<Told>,
-) -> Result<(), AllocError>
-    ensures { OnOk result ((sessions.new.entries, told.new.items) ≡ announced key news most now (sessions.old.entries, told.old.items)) }
+) -> Result<Option<Stray>, AllocError>
+    ensures told { OnOk result ((sessions.new.entries, told.new.items) ≡ announced key news most now (sessions.old.entries, told.old.items)) }
+    ensures stray { IfOk result (λ stray. stray ≡ None) }
 {
     if is_again(sessions, key, news.pgn, news.size) {
         renew(sessions, key, now);
-        return Ok(());
+        return Ok(None);
     }
     settle(sessions, key, Fate::Lost(Cause::Replaced), told)?;
-    begin(alloc, sessions, key, news, most, now, told)
+    begin(alloc, sessions, key, news, most, now, told)?;
+    Ok(None)
 }
 
 /// Each message that is under way is reported as lost, for this cause.

@@ -1,25 +1,24 @@
 //! The messages under way whose frames have stopped.
 ghost use Rattle.std.specs.Prelude.{◌≡◌, ◌++◌, OnOk, IfOk, not, filter, None, if◌then◌else◌};
-ghost use Rattle.log_sessions.specs.Session.{is_silent, told_of};
+ghost use Rattle.log_decode.specs.Session.{is_silent, told_of};
 ghost use Rattle.log_decode.specs.Sessions.{silent_entry, losses, silenced};
 ghost use Rattle.log_decode.specs.Due.{NoneDueBefore};
-ghost use Rattle.log_sessions.specs.declared.session.Fate.TheVariants.{Lost};
+ghost use Rattle.log_decode.specs.declared.session.Fate.TheVariants.{Lost};
 ghost use Rattle.log_reports.specs.declared.told.Cause.TheVariants.{TimedOut};
 
+use crate::session::Session;
 use crate::sessions::{Sessions, tell};
 use log_reports::{Cause, Key, Told};
-use log_sessions::Session;
 use std::alloc::AllocError;
 
 /// The report that a message is lost, if it is silent.
 fn silence_of(key: Key, session: &Session, now: u64) -> Option<Told>
     ensures { result ≡ (if is_silent key.to session.now now then told_of key session.now (Lost TimedOut) else None) }
 {
-    if session.is_silent(key.to, now) {
-        Some(session.lost(key, Cause::TimedOut))
-    } else {
-        None
+    if !session.is_silent(key.to, now) {
+        return None;
     }
+    Some(session.lost(key, Cause::TimedOut))
 }
 
 /// Each message that is silent is reported as lost.

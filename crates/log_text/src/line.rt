@@ -7,10 +7,9 @@ use crate::screen::screen_frame;
 use bus_frame::{CanId, Frame};
 use log_fields::{Iface, cut_at, next_word, time_of};
 use text_digits::read_numeral;
-use thiserror::Error;
 
 /// What a line of a log shows.
-#[derive(Clone, Copy, Debug, PartialEq, Eq)]
+#[derive(Clone, Copy, Debug)]
 pub enum LogLine {
     /// A data frame with a 29-bit identifier, seen on an interface, at so many microseconds if the line says when.
     Frame {
@@ -23,8 +22,7 @@ pub enum LogLine {
 }
 
 /// The line begins as one of a log, but continues differently.
-#[derive(Clone, Copy, Debug, PartialEq, Eq, Error)]
-#[error("not a log line")]
+#[derive(Clone, Copy, Debug)]
 pub struct NotLogLine;
 
 /// The identifier with a number, if it has one: above the largest, candump shows error frames.
@@ -45,7 +43,8 @@ fn is_mark(word: &[u8]) -> bool
 {
     match word {
         [] => true,
-        [byte] => *byte == b'R' || *byte == b'T',
+        [b'R'] => true,
+        [b'T'] => true,
         _ => false,
     }
 }
@@ -63,10 +62,10 @@ pub(crate) fn is_ended(text: &[u8]) -> bool
 fn is_other(shown: &[u8]) -> bool
     ensures { result ≡ is_other shown.now }
 {
-    match shown {
-        [byte, ..] => *byte == b'R' || *byte == b'#',
-        [] => false,
-    }
+    let [byte, ..] = shown else {
+        return false;
+    };
+    *byte == b'R' || *byte == b'#'
 }
 
 /// A frame of eight digits of identifier. The bit above the identifier marks an error frame.
@@ -126,7 +125,8 @@ fn timed_line(text: &[u8]) -> Option<LogLine>
 {
     let (stamp, text) = cut_at(b')', text)?;
     let (seconds, micros) = cut_at(b'.', stamp)?;
-    behind_time(time_of(seconds, micros)?, text)
+    let time = time_of(seconds, micros)?;
+    behind_time(time, text)
 }
 
 /// The meaning of a line, without its line feed. Any number of spaces may be in the place of one.

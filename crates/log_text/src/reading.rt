@@ -1,5 +1,6 @@
 //! What a line shows in a log whose lines have a form.
 ghost use Rattle.std.specs.Prelude.{◌≡◌, MatchResult, Some, None, if◌then◌else◌};
+ghost use Rattle.text_digits.specs.Numerals.{is_between};
 ghost use Rattle.log_text.specs.Line.{behind_time};
 ghost use Rattle.log_text.specs.Reading.{before_return, trimmed, begins_timed, is_bracket, is_id, begins_shown, form_of, micros_of, stamp_of, before_quote, is_long_count, is_remote, long_shown, shown_line, stamped_line, timed_as, untimed_as, line_as};
 
@@ -11,7 +12,7 @@ use log_fields::{Iface, SECOND, cut_at, next_word, spaces_in};
 use text_digits::read_numeral;
 
 /// The form of a log's lines.
-#[derive(Clone, Copy, Debug, PartialEq, Eq)]
+#[derive(Clone, Copy, Debug)]
 pub enum Form {
     /// Each begins with a time in round brackets, as candump writes them for a file, and on a screen if it is asked for times.
     Timed,
@@ -44,11 +45,17 @@ fn trimmed(line: &[u8]) -> &[u8]
     &bare[spaces_in(bare)..]
 }
 
+fn is_digit(byte: u8) -> bool
+    ensures { result ≡ is_between 48 57 byte }
+{
+    byte >= b'0' && byte <= b'9'
+}
+
 fn begins_timed(text: &[u8]) -> bool
     ensures { result ≡ begins_timed text.now }
 {
     match text {
-        [open, digit, ..] => *open == b'(' && *digit >= b'0' && *digit <= b'9',
+        [open, digit, ..] => *open == b'(' && is_digit(*digit),
         _ => false,
     }
 }
@@ -98,11 +105,13 @@ fn micros(digits: &[u8]) -> Option<u64>
     ensures { result ≡ micros_of digits.now }
 {
     let number = read_numeral(10, digits)?;
-    match digits.len() {
-        6 => Some(number),
-        9 => Some(number / 1_000),
-        _ => None,
+    if digits.len() == 6 {
+        return Some(number);
     }
+    if digits.len() == 9 {
+        return Some(number / 1_000);
+    }
+    None
 }
 
 /// A time, below 2 ^ 64 microseconds.
@@ -134,12 +143,7 @@ fn is_long_count(word: &[u8]) -> bool
 {
     match word {
         [open, tens, ones, close] => {
-            *open == b'['
-                && *close == b']'
-                && *tens >= b'0'
-                && *tens <= b'9'
-                && *ones >= b'0'
-                && *ones <= b'9'
+            *open == b'[' && *close == b']' && is_digit(*tens) && is_digit(*ones)
         }
         _ => false,
     }

@@ -15,11 +15,10 @@ pub(crate) fn count(word: &[u8]) -> Option<usize>
     let [open, digit, close] = word else {
         return None;
     };
-    if *open == b'[' && *close == b']' && *digit >= b'0' && *digit <= b'8' {
-        Some(usize::from(*digit - b'0'))
-    } else {
-        None
+    if *open != b'[' || *close != b']' || *digit < b'0' || *digit > b'8' {
+        return None;
     }
+    Some(usize::from(*digit - b'0'))
 }
 
 /// A byte of two hexadecimal digits.

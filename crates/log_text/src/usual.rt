@@ -22,8 +22,10 @@ const DIGITS: usize = 8;
 fn behind(wanted: u8, text: &[u8]) -> Option<&[u8]>
     ensures { IfSome result (λ rest. text.now ≡ wanted ∷ rest.now) }
 {
-    let (first, rest) = text.split_first()?;
-    if *first == wanted { Some(rest) } else { None }
+    match text {
+        [first, rest @ ..] if *first == wanted => Some(rest),
+        _ => None,
+    }
 }
 
 /// The time in front of a bracket, and the text behind it.

@@ -1,5 +1,6 @@
 //! Lines of a log, written.
-ghost use Rattle.std.specs.Prelude.{◌≡◌, ◌++◌, OnOk};
+ghost use Rattle.std.specs.Prelude.{◌≡◌, ◌∷◌, ◌++◌, OnOk};
+ghost use Rattle.text_digits.specs.Digits.{unspaced};
 ghost use Rattle.log_text.specs.Written.{frame_text, log_text};
 
 use bus_frame::Frame;
@@ -7,13 +8,20 @@ use log_fields::{Iface, put_time};
 use std::alloc::AllocError;
 use text_digits::{put_bytes, put_digits};
 
+/// Puts a frame's data behind their mark.
+fn put_data(out: &mut Vec<u8>, bytes: &[u8]) -> Result<(), AllocError>
+    ensures { OnOk result (out.new.items ≡ out.old.items ++ 35 ∷ unspaced bytes.now) }
+{
+    out.push(b'#')?;
+    put_bytes(out, bytes)
+}
+
 #[tactic(auto, unfolding(crate::specs::Written::frame_text))]
 fn put_frame(out: &mut Vec<u8>, frame: &Frame) -> Result<(), AllocError>
     ensures { OnOk result (out.new.items ≡ out.old.items ++ frame_text frame.now) }
 {
     put_digits(out, 16, 8, u64::from(frame.id().raw()))?;
-    out.push(b'#')?;
-    put_bytes(out, frame.bytes())
+    put_data(out, frame.bytes())
 }
 
 /// Puts the line of a frame that was seen at so many microseconds on an interface behind what `out` holds, without its line feed. It fails

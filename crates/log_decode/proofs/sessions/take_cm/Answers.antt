@@ -1,6 +1,6 @@
 use Rattle.std.proofs.Common.{sym, ◌∙◌}
 use Rattle.tp_wire.specs.Rows.{cm_pgn}
-use Rattle.log_sessions.specs.Session.{heard}
+use Rattle.log_decode.specs.Session.{heard}
 use Rattle.log_decode.proofs.AtKey.{there, heard_there, cm_there}
 use Rattle.log_decode.proofs.sessions.take_cm.Goals as goal
 

@@ -1,5 +1,5 @@
 use Rattle.std.proofs.Common.{sym, ◌∙◌}
-use Rattle.log_sessions.specs.Session.{sequence_heard}
+use Rattle.log_decode.specs.Session.{sequence_heard}
 use Rattle.log_decode.proofs.AtKey.{there, heard_there, packet_there}
 use Rattle.log_decode.proofs.sessions.take_packet.Goals as goal
 

@@ -1,6 +1,6 @@
 use Rattle.std.proofs.Common.{sym, ◌∙◌, ap, option_map, arith}
 use Rattle.std.specs.Map.Iter.{deref_pair}
-use Rattle.log_sessions.specs.declared.session.Fate.TheVariants.{Lost}
+use Rattle.log_decode.specs.declared.session.Fate.TheVariants.{Lost}
 use Rattle.log_decode.proofs.Silences.{losses_on, losses_all}
 use Rattle.log_decode.proofs.sessions.tell_all.Goals as goal
 

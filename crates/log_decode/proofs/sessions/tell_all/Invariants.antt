@@ -1,6 +1,6 @@
 use Rattle.std.proofs.Common.{◌≡◌, ◌++◌, drop}
 use Rattle.log_decode.specs.Sessions.{losses}
-use Rattle.log_sessions.specs.declared.session.Fate.TheVariants.{Lost}
+use Rattle.log_decode.specs.declared.session.Fate.TheVariants.{Lost}
 use Rattle.log_decode.proofs.sessions.tell_all.Given as goal
 
 abbrev pub invariant-loop-at : goal.invariant-loop-at

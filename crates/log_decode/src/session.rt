@@ -2,8 +2,8 @@
 ghost use Rattle.pgn_ids.specs.Pgn.{clean};
 ghost use Rattle.std.specs.Prelude.{◌≡◌, ◌==◌, length, true, OnOk, IfOk, Some};
 ghost use Rattle.seg_cut.specs.Join.{wants};
-ghost use Rattle.log_sessions.specs.Session.{first_window, opened, accepted, renewed, packet_heard, is_within, sequence_heard, cm_heard, acknowledged, heard, abort_heard, is_silent, patience, due, soonest, given_of, told_of, is_again};
-ghost use Rattle.log_sessions.specs.declared.session.Fate.TheVariants.{GoesOn, Lost};
+ghost use Rattle.log_decode.specs.Session.{first_window, opened, accepted, renewed, packet_heard, is_within, sequence_heard, cm_heard, acknowledged, heard, abort_heard, is_silent, patience, due, soonest, given_of, told_of, is_again};
+ghost use Rattle.log_decode.specs.declared.session.Fate.TheVariants.{GoesOn, Lost};
 
 use log_fields::TICK;
 use log_reports::{Bytes, Cause, Key, Told, Transport};
@@ -149,8 +149,8 @@ impl Session {
         self.hear_number(to, number, bytes, now)
     }
 
-    /// A frame of it is seen.
-    fn go_on(&mut self, now: u64) -> Fate
+    /// Takes a frame of it that says nothing new.
+    pub fn go_on(&mut self, now: u64) -> Fate
         ensures value { result ≡ GoesOn }
         ensures renewed { self.new ≡ renewed self.old now }
     {
@@ -158,20 +158,14 @@ impl Session {
         Fate::GoesOn
     }
 
-    /// A window ends: the number of a packet is unknown until a data packet offset opens the next one.
-    fn close_window(&mut self)
-        ensures { self.new ≡ record self.old { window = Some 0 } }
-    {
-        self.window = Some(0);
-    }
-
     fn hear_cm(&mut self, frame: &CmFrame, now: u64) -> Fate
         ensures { (self.new, result) ≡ cm_heard self.old frame.now now }
     {
         match frame {
             CmFrame::Cts { .. } => self.go_on(now),
+            // The window ends: the number of a packet is unknown until a data packet offset opens the next one.
             CmFrame::EtpCts { .. } => {
-                self.close_window();
+                self.window = Some(0);
                 self.go_on(now)
             }
             CmFrame::EtpDpo {
@@ -209,7 +203,7 @@ impl Session {
     pub fn hear(&mut self, frame: &CmFrame, now: u64) -> Fate
         ensures { (self.new, result) ≡ heard self.old frame.now now }
     {
-        if frame.pgn().clean() != self.pgn.clean() {
+        if !self.is_of(frame.pgn()) {
             return Fate::GoesOn;
         }
         self.hear_cm(frame, now)
@@ -226,18 +220,11 @@ impl Session {
     pub fn hear_abort(&self, who: Address, reason: u8, pgn: WirePgn) -> Fate
         ensures { result ≡ abort_heard self.now who reason pgn }
     {
-        if pgn.clean() == self.pgn.clean() {
+        if self.is_of(pgn) {
             Fate::Aborted { reason, who }
         } else {
             Fate::GoesOn
         }
-    }
-
-    /// Takes a frame of it that says nothing new.
-    pub fn renew(&mut self, now: u64)
-        ensures { self.new ≡ renewed self.old now }
-    {
-        self.heard = now;
     }
 
     /// Whether no frame of it was seen for so long that its ends have given it up.

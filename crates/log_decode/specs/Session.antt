@@ -11,10 +11,10 @@ use Rattle.tp_wire.specs.declared.wire.CmFrame.TheVariants as frames
 use Rattle.log_reports.specs.declared.key.Key.{Key}
 use Rattle.log_reports.specs.declared.key.Transport.{Transport}
 use Rattle.log_reports.specs.declared.key.Transport.TheVariants.{Tp, Etp}
-use Rattle.log_sessions.specs.declared.session.TheConstants.{CONNECTION_PATIENCE}
-use Rattle.log_sessions.specs.declared.session.Session.{Session}
-use Rattle.log_sessions.specs.declared.session.Fate.{Fate}
-use Rattle.log_sessions.specs.declared.session.Fate.TheVariants as fates
+use Rattle.log_decode.specs.declared.session.TheConstants.{CONNECTION_PATIENCE}
+use Rattle.log_decode.specs.declared.session.Session.{Session}
+use Rattle.log_decode.specs.declared.session.Fate.{Fate}
+use Rattle.log_decode.specs.declared.session.Fate.TheVariants as fates
 use Rattle.log_reports.specs.declared.told.Cause.TheVariants.{Missing, Acknowledged}
 use Rattle.log_reports.specs.declared.told.Told.{Told}
 use Rattle.log_reports.specs.declared.told.Told.TheVariants.{Given, Aborted, Lost}
