@@ -5,6 +5,7 @@ use Rattle.pgn_ids.specs.Pgn.{clean}
 use Rattle.pgn_ids.specs.declared.address.Address.{Address}
 use Rattle.seg_cut.specs.Join.{Join, empty_join, wants, joined, with_room, is_complete}
 use Rattle.tick_timers.specs.declared.durations.TheConstants.{T1}
+use Rattle.tp_wire.specs.declared.constants.TheConstants.{ETP_MAX_WINDOW}
 use Rattle.tp_wire.specs.Rows.{cm_pgn}
 use Rattle.tp_wire.specs.declared.wire.CmFrame.{CmFrame}
 use Rattle.tp_wire.specs.declared.wire.CmFrame.TheVariants as frames
@@ -34,7 +35,7 @@ is_again s pgn size = s.pgn == pgn && s.join.size == size && s.join.next == 1
 
 -- with room for the next packet: if there is none, for as many as were received, and for a window at least
 abbrev pub roomy : Join → Join
-roomy j = if j.room == 0 then with_room j (max (j.next - 1) 64) else j
+roomy j = if j.room == 0 then with_room j (max (j.next - 1) ETP_MAX_WINDOW) else j
 
 -- a frame of it was seen
 abbrev pub renewed : Session → (now : ℕ) → Session
