@@ -105,7 +105,13 @@ pub(crate) fn filled(rt: &impl Abort, alloc: Global, len: u32) -> Vec<u8> {
 }
 
 fn places(alloc: Global, len: u32) -> Result<Vec<u8>, AllocError> {
-    (1..=len).map(|i| (i % 256) as u8).collect(alloc)
+    let mut bytes = Vec::with_capacity(alloc, len as usize)?;
+    let mut byte = 0u8;
+    for _ in 0..len {
+        byte = byte.wrapping_add(1);
+        bytes.push(byte)?;
+    }
+    Ok(bytes)
 }
 
 // Port 35.1 on FECA, for up to 4,000 bytes.
