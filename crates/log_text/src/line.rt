@@ -7,6 +7,7 @@ use crate::screen::screen_frame;
 use bus_frame::{CanId, Frame};
 use log_fields::{Iface, cut_at, next_word, time_of};
 use text_digits::read_numeral;
+use thiserror::Error;
 
 /// What a line of a log shows.
 #[derive(Clone, Copy, Debug)]
@@ -22,7 +23,8 @@ pub enum LogLine {
 }
 
 /// The line begins as one of a log, but continues differently.
-#[derive(Clone, Copy, Debug)]
+#[derive(Clone, Copy, Debug, Error)]
+#[error("not a log line")]
 pub struct NotLogLine;
 
 /// The identifier with a number, if it has one: above the largest, candump shows error frames.
