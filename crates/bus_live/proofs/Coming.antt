@@ -4,7 +4,7 @@ use Rattle.std.proofs.lemmas.Option.{none-some, same_Some}
 use Rattle.pgn_ids.specs.declared.address.Address.{Address}
 use Rattle.port_table.specs.declared.port.PortId.{PortId}
 use Rattle.stored_calls.specs.declared.stored.Stored.{Stored}
-use Rattle.live_segment.specs.LiveView.{LiveView}
+use Rattle.script_setup.specs.LiveView.{LiveView}
 use Rattle.script_setup.specs.Plan.{Plan}
 use Rattle.script_setup.specs.declared.setup.Message.{Message}
 use Rattle.segment_report.specs.declared.names.Names.{Names}

@@ -3,7 +3,7 @@ use Rattle.std.specs.Prelude.{◌≡◌, ℕ, List, [], Bool, false, Option, Som
 use Rattle.pgn_ids.specs.declared.address.Address.{Address}
 use Rattle.port_table.specs.declared.port.PortId.{PortId}
 use Rattle.stored_calls.specs.declared.stored.Stored.{Stored}
-use Rattle.live_segment.specs.LiveView.{LiveView}
+use Rattle.script_setup.specs.LiveView.{LiveView}
 use Rattle.script_runs.specs.Reading.{Planned, planned_by}
 use Rattle.script_runs.specs.Ending.{EndedBy}
 use Rattle.script_runs.specs.declared.ending.LiveRan.{LiveRan}

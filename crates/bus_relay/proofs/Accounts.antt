@@ -9,12 +9,10 @@ use Rattle.segment_rings.specs.declared.words.Submission.{Submission}
 use Rattle.segment_rings.specs.declared.words.Delivery.{Delivery}
 use Rattle.segment_rings.specs.Ends.{ClientEnd, InboxEnd}
 use Rattle.stored_calls.specs.declared.stored.Stored.{Stored}
-use Rattle.live_segment.specs.declared.report.ClientReport.{ClientReport}
-use Rattle.live_segment.specs.declared.report.InboxReport.{InboxReport}
-use Rattle.live_segment.specs.LiveView.{LiveView, Laws}
-use Rattle.live_segment.proofs.Uncut.{left_uncut, rest_uncut}
+use Rattle.script_setup.specs.Reports.{ClientReport, InboxReport, AreClientReports, AreInboxReports}
+use Rattle.script_setup.specs.LiveView.{LiveView, Laws}
+use Rattle.script_setup.proofs.Reports.{left_uncut, rest_uncut}
 use Rattle.live_record.specs.Record.{accepted, given, notes_of, trail}
-use Rattle.live_segment.specs.Reports.{AreClientReports, AreInboxReports}
 use Rattle.live_record.proofs.Prefixes.{prefix_length}
 use Rattle.port_relay.specs.Relaying.{IsRelayed}
 use Rattle.port_relay.specs.Working.{relayed_to}

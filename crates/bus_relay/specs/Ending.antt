@@ -5,7 +5,7 @@ use Rattle.port_table.specs.declared.port.PortId.{PortId}
 use Rattle.segment_law.specs.Headline.{Headline}
 use Rattle.live_record.specs.Record.{Trail, trail}
 use Rattle.stored_calls.specs.declared.stored.Stored.{Stored}
-use Rattle.live_segment.specs.LiveView.{LiveView, Laws}
+use Rattle.script_setup.specs.LiveView.{LiveView, Laws}
 use Rattle.script_text.specs.Parts.{line}
 use Rattle.script_text.specs.Counts.{relayed_line}
 use Rattle.script_runs.specs.Reading.{Planned}

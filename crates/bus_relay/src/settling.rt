@@ -2,7 +2,7 @@
 ghost use Rattle.std.specs.Prelude.{◌≡◌, ◌≤◌, ◌++◌, ◌∷◌, [], length, true, IfOk, OnOk};
 ghost use mathlib.Core.List.{IsPrefix};
 ghost use Rattle.live_record.specs.Record.{accepted, given, notes_of, trail};
-ghost use Rattle.live_segment.specs.Reports.{AreClientReports, AreInboxReports};
+ghost use Rattle.script_setup.specs.Reports.{AreClientReports, AreInboxReports};
 ghost use Rattle.bus_relay.specs.Carriages.{HasCarried, place_of, none_left, IsCarried, IsCarriedWhole, Carries, CarriesWhole};
 ghost use Rattle.bus_relay.specs.Known.{CameOfKnown};
 

@@ -15,7 +15,7 @@ use Rattle.segment_state.specs.Next.{any_work}
 use Rattle.live_segment.specs.LiveView.{LiveView, SameLive, LacksMemory, Laws}
 use Rattle.live_record.specs.Record.{trail}
 use Rattle.live_segment.specs.Turns.{IsAnswered, state_of}
-use Rattle.watched_segment.specs.Lowest.{IsNext}
+use Rattle.live_calls.specs.Lowest.{IsNext}
 use Rattle.live_calls.specs.declared.call.WorkerCall.{WorkerCall}
 use Rattle.live_calls.specs.declared.call.WorkerCall.TheVariants.{Inject, Overrun, Tick}
 use Rattle.c_parts.specs.Calls.{IsMadeOn}

@@ -1,7 +1,7 @@
 //! Frames from the bus and for the bus.
 ghost use Rattle.std.specs.Prelude.{◌≡◌, Option, IsSome};
 ghost use Rattle.pgn_ids.specs.declared.address.Address.{Address};
-ghost use Rattle.watched_segment.specs.Lowest.{IsNext};
+ghost use Rattle.live_calls.specs.Lowest.{IsNext};
 ghost use Rattle.live_segment.specs.Turns.{state_of};
 ghost use Rattle.live_calls.specs.declared.call.WorkerCall.TheVariants.{Transmit, Overrun};
 ghost use Rattle.c_parts.specs.Codes.{found_code};

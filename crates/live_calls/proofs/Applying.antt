@@ -1,7 +1,7 @@
 -- No call of a thread opens a port or sends a message.
 use Rattle.std.proofs.Common.{◌≡◌, Bool, false, refl}
 use Rattle.segment_law.specs.Calls.{is_send}
-use Rattle.reply_law.specs.Replies.{opens}
+use Rattle.live_record.specs.Replies.{opens}
 use Rattle.live_calls.specs.declared.call.WorkerCall.{WorkerCall}
 use Rattle.live_calls.specs.declared.call.WorkerCall.TheVariants.{Pump, Transmit, Take, TakeAgain, Overrun, Tick, Fire, Cancel, Inject, Pause, Resume}
 use Rattle.live_calls.specs.Words.{call_of}

@@ -12,3 +12,4 @@ pub use offer::{Ready, find_ready};
 pub use places::{Found, make_found};
 pub use step::{make, refusal_for, try_plainly};
 pub use wanted::Wanted;
+pub use watched_segment::{Image, NewRefused, Segment, Watched, lowest_front, the_headline_holds};

@@ -3,7 +3,7 @@ ghost use Rattle.std.specs.Prelude.{◌≡◌, ◌<◌, ◌+◌, ◌^◌, length
 ghost use Rattle.pgn_ids.specs.declared.address.Address.{Address};
 ghost use Rattle.segment_law.specs.Record.{Record, StandsAt};
 ghost use Rattle.segment_state.specs.Answers.{reply_with};
-ghost use Rattle.reply_law.specs.Replies.{reply_of, left_by, Follows};
+ghost use Rattle.live_record.specs.Replies.{reply_of, left_by, Follows};
 ghost use Rattle.live_record.specs.declared.calls.TheConstants.{MOST_CALLS};
 ghost use Rattle.live_record.specs.Past.{count_since};
 ghost use Rattle.live_ends.specs.Ends.{PortsApart, SameDoors};

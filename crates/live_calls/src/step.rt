@@ -7,7 +7,7 @@ ghost use Rattle.segment_law.specs.Record.{Record, StandsAt};
 ghost use Rattle.segment_law.specs.declared.reply.Reply.TheVariants.{Done};
 ghost use Rattle.segment_state.specs.Answers.{refusal_of, reply_with};
 ghost use Rattle.live_calls.specs.Words.{call_of, wanted_by};
-ghost use Rattle.reply_law.specs.Replies.{reply_of, left_by, Follows};
+ghost use Rattle.live_record.specs.Replies.{reply_of, left_by, Follows};
 
 use crate::call::WorkerCall;
 use message_events::Events;

@@ -6,7 +6,7 @@ use Rattle.message_events.specs.declared.event.Event.{Event}
 use Rattle.segment_law.specs.Readers.{ports_given}
 use Rattle.segment_law.specs.Told.{same_port}
 use Rattle.segment_rings.specs.Views.{DoorView}
-use Rattle.reply_law.specs.Replies.{EachShort}
+use Rattle.live_record.specs.Replies.{EachShort}
 use Rattle.live_record.specs.Record.{given}
 
 -- how often a number is among others

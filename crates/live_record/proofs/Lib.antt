@@ -4,3 +4,4 @@ pub mod Prefixes
 pub mod Pieces
 pub mod Held
 pub mod TurnedAway
+pub mod Replies

@@ -5,7 +5,7 @@ use Rattle.port_table.specs.declared.port.PortId.{PortId}
 use Rattle.segment_law.specs.Segment.{Segment}
 use Rattle.segment_law.specs.declared.call.Call.TheVariants.{Close}
 use Rattle.segment_law.specs.declared.reply.Reply.{Reply}
-use Rattle.reply_law.specs.Replies.{reply_of}
+use Rattle.live_record.specs.Replies.{reply_of}
 use Rattle.segment_rings.specs.Ends.{InboxEnd, closes}
 use Rattle.segment_rings.specs.Views.{SeatView, DoorView}
 use Rattle.stored_calls.specs.declared.stored.Stored.{Stored}

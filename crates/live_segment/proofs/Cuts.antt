@@ -7,7 +7,7 @@ use Rattle.port_table.specs.declared.port.PortId.{PortId}
 use Rattle.message_events.specs.declared.event.Event.{Event}
 use Rattle.segment_law.specs.Segment.{Segment}
 use Rattle.segment_law.specs.Told.{same_port}
-use Rattle.reply_law.specs.Replies.{IsKnown}
+use Rattle.live_record.specs.Replies.{IsKnown}
 use Rattle.segment_rings.specs.declared.words.Note.{Note}
 use Rattle.segment_rings.specs.Tails.{known_out}
 use Rattle.segment_rings.specs.Ends.{ring_places}

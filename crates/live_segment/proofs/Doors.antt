@@ -5,7 +5,7 @@ use Rattle.message_events.specs.declared.event.Event.{Event}
 use Rattle.message_events.specs.declared.event.Event.TheVariants as event
 use Rattle.segment_law.specs.Segment.{Segment}
 use Rattle.segment_law.specs.Told.{same_port}
-use Rattle.reply_law.specs.Replies.{IsKnown, EachKnown, EventKnown}
+use Rattle.live_record.specs.Replies.{IsKnown, EachKnown, EventKnown}
 use Rattle.segment_rings.specs.Views.{DoorView}
 use Rattle.live_record.specs.Record.{delivery_at, given}
 use Rattle.live_ends.specs.Ends.{NoneAt, PortsApart, give_all, SameDoors}

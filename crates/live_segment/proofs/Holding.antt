@@ -12,7 +12,7 @@ use Rattle.segment_law.specs.declared.call.Call.{Call}
 use Rattle.segment_law.specs.declared.call.Call.TheVariants.{Open, Close, Send, Pump, Transmit, Take, TakeAgain, Overrun, Tick, Fire, Cancel, Inject, Pause, Resume}
 use Rattle.segment_law.specs.declared.reply.Reply.{Reply}
 use Rattle.segment_law.specs.declared.reply.Reply.TheVariants.{Opened, Done}
-use Rattle.reply_law.specs.Replies.{reply_of, left_by, Follows, EachKnown, IsKnown}
+use Rattle.live_record.specs.Replies.{reply_of, left_by, Follows, EachKnown, IsKnown}
 use Rattle.segment_rings.specs.declared.words.Submission.{Submission}
 use Rattle.segment_rings.specs.declared.words.Note.{Note}
 use Rattle.segment_rings.specs.Views.{SeatView, DoorView, new_seat, new_door, closed_seat, closed_door, noted_after}

@@ -12,8 +12,8 @@ use Rattle.segment_law.specs.declared.call.Call.TheVariants.{Take}
 use Rattle.segment_law.specs.declared.reply.Reply.{Reply}
 use Rattle.segment_law.specs.declared.reply.Reply.TheVariants.{Done}
 use Rattle.segment_law.proofs.Drifting.{stands_drifts}
-use Rattle.reply_law.specs.Replies.{reply_of, Follows}
-use Rattle.reply_law.proofs.Following.{follows}
+use Rattle.live_record.specs.Replies.{reply_of, Follows}
+use Rattle.live_record.proofs.Replies.{follows}
 use Rattle.segment_state.specs.Next.{is_active}
 use Rattle.segment_state.specs.Passing.{PassesBy}
 use Rattle.segment_state.proofs.PassedBy.{none_there}

@@ -6,8 +6,8 @@ use Rattle.message_events.specs.declared.event.Event.{Event}
 use Rattle.message_events.specs.declared.event.Event.TheVariants as event
 use Rattle.segment_law.specs.Segment.{Segment}
 use Rattle.segment_law.specs.Readers.{ports_given}
-use Rattle.reply_law.specs.Replies.{EachAt, EachShort, expected}
-use Rattle.reply_law.proofs.Gives.{none_short}
+use Rattle.live_record.specs.Replies.{EachAt, EachShort, expected}
+use Rattle.live_record.proofs.Replies.{none_short}
 use Rattle.segment_rings.specs.declared.words.Delivery.{Delivery}
 use Rattle.segment_rings.specs.Views.{DoorView}
 use Rattle.live_calls.specs.declared.call.WorkerCall.{WorkerCall}

@@ -10,7 +10,7 @@ use Rattle.segment_law.specs.declared.call.Call.{Call}
 use Rattle.segment_law.specs.declared.reply.Reply.{Reply}
 use Rattle.segment_law.proofs.Booleans.{both_pass}
 use Rattle.segment_law.proofs.Records.{stands_on}
-use Rattle.reply_law.specs.Replies.{reply_of, left_by}
+use Rattle.live_record.specs.Replies.{reply_of, left_by}
 use Rattle.stored_calls.specs.declared.stored.Stored.{Stored}
 use Rattle.live_record.specs.Record.{Trail, start, step, trail_from, trail}
 use Rattle.live_segment.specs.Rejoining.{StandsAfter}

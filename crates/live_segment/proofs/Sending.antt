@@ -14,7 +14,7 @@ use Rattle.segment_law.specs.Record.{StandsAt}
 use Rattle.segment_law.specs.declared.call.Call.{Call}
 use Rattle.segment_law.specs.declared.reply.Reply.{Reply}
 use Rattle.segment_law.specs.declared.reply.Reply.TheVariants.{Sent}
-use Rattle.reply_law.specs.Replies.{reply_of, left_by, Follows, EachKnown, IsAnsweredBy}
+use Rattle.live_record.specs.Replies.{reply_of, left_by, Follows, EachKnown, IsAnsweredBy}
 use Rattle.segment_rings.specs.declared.words.Submission.{Submission}
 use Rattle.segment_rings.specs.declared.words.Note.{Note}
 use Rattle.segment_rings.specs.Views.{SeatView, DoorView, popped_one}

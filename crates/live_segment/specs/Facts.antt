@@ -7,7 +7,7 @@ use Rattle.segment_law.specs.Segment.{Segment}
 use Rattle.segment_law.specs.Record.{StandsAt}
 use Rattle.segment_law.specs.declared.call.Call.{Call}
 use Rattle.segment_law.specs.declared.call.Call.TheVariants.{Send}
-use Rattle.reply_law.specs.Replies.{IsKnown, EachKnown}
+use Rattle.live_record.specs.Replies.{IsKnown, EachKnown}
 use Rattle.segment_rings.specs.declared.words.Note.{Note}
 use Rattle.segment_rings.specs.Views.{SeatView, DoorView}
 use Rattle.stored_calls.specs.declared.stored.Stored.{Stored}

@@ -11,7 +11,7 @@ use Rattle.segment_law.specs.declared.reply.Reply.{Reply}
 use Rattle.segment_law.specs.declared.reply.Reply.TheVariants.{Opened, Sent, Refused, Done}
 use Rattle.segment_law.specs.declared.refusal.Refusal.TheVariants.{TraceFull}
 use Rattle.segment_state.specs.Answers.{refusal_of}
-use Rattle.reply_law.specs.Replies.{reply_of}
+use Rattle.live_record.specs.Replies.{reply_of}
 use Rattle.segment_rings.specs.declared.words.Submission.{Submission}
 use Rattle.segment_rings.specs.declared.words.Note.{Note}
 use Rattle.segment_rings.specs.declared.words.Delivery.{Delivery}

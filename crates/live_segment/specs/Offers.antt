@@ -7,7 +7,7 @@ use Rattle.segment_law.specs.declared.refusal.Refusal.TheVariants.{TraceFull}
 use Rattle.segment_state.specs.Answers.{refusal_of}
 use Rattle.segment_law.specs.declared.reply.Reply.{Reply}
 use Rattle.segment_law.specs.declared.reply.Reply.TheVariants.{Sent, Refused}
-use Rattle.reply_law.specs.Replies.{reply_of}
+use Rattle.live_record.specs.Replies.{reply_of}
 use Rattle.segment_rings.specs.declared.words.Submission.{Submission}
 use Rattle.live_record.specs.declared.calls.TheConstants.{MOST_CALLS}
 use Rattle.live_segment.specs.declared.refused.Accepted.{Accepted}

@@ -5,7 +5,7 @@ use Rattle.port_table.specs.declared.port.PortId.{PortId}
 use Rattle.segment_law.specs.Told.{same_port}
 use Rattle.segment_law.specs.declared.call.Call.TheVariants.{Close}
 use Rattle.segment_law.specs.declared.refusal.Refusal.TheVariants.{NotThisSegment, NoSuchPort, TraceFull}
-use Rattle.reply_law.specs.Replies.{reply_of}
+use Rattle.live_record.specs.Replies.{reply_of}
 use Rattle.segment_rings.specs.declared.words.Submission.{Submission}
 use Rattle.segment_rings.specs.declared.words.Delivery.{Delivery}
 use Rattle.segment_rings.specs.Ends.{ClientEnd, InboxEnd, closes}

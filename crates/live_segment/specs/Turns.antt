@@ -19,7 +19,7 @@ use Rattle.live_segment.specs.declared.turns.Turn.{Turn}
 use Rattle.live_record.specs.Record.{trail}
 use Rattle.live_segment.specs.LiveView.{LiveView, SameLive, Applied, LacksMemory, stored_calls}
 use Rattle.live_segment.specs.Offers.{AcceptedAs, LacksMemoryFor, IsClientOf}
-use Rattle.watched_segment.specs.Lowest.{IsNext}
+use Rattle.live_calls.specs.Lowest.{IsNext}
 
 abbrev pub state_of : LiveView → Segment
 state_of v = (trail v.addresses v.calls).state

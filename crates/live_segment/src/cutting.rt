@@ -6,9 +6,9 @@ ghost use Rattle.live_segment.specs.Rejoining.{CutAs, IsCutCause};
 
 use crate::live::Live;
 use crate::refused::NotMade;
+use live_calls::Segment;
 use live_record::Piece;
 use segment_law::Refusal;
-use watched_segment::Segment;
 
 impl Live {
     /// Hands out all calls that are stored, and stores the next ones from the start. The segment, its clients and its ports are not

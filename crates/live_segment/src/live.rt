@@ -3,7 +3,10 @@ ghost use Rattle.std.specs.Prelude.{◌≡◌, ◌≤◌, map, true};
 ghost use Rattle.live_segment.specs.LiveView.{is_station_of, clients_at, client_of};
 
 use crate::refused::{Accepted, NotMade};
-use live_calls::{Found, Ready, WorkerCall, find_ready, make, make_found, refusal_for};
+use live_calls::{
+    Found, Image, NewRefused, Ready, Segment, Watched, WorkerCall, find_ready, make, make_found,
+    refusal_for, the_headline_holds,
+};
 use live_ends::{Doors, Seats, tell};
 use live_record::{Calls, Owed};
 use message_events::Events;
@@ -14,7 +17,6 @@ use segment_state::Made;
 use std::alloc::{AllocError, Global};
 use std::marker::Model;
 use stored_calls::{Stored, StoredCalls};
-use watched_segment::{Image, NewRefused, Segment, Watched, the_headline_holds};
 
 /// How many clients a station has at most.
 pub const MOST_CLIENTS: usize = 16;

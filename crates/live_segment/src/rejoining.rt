@@ -6,12 +6,12 @@ ghost use Rattle.stored_calls.specs.declared.stored.Stored.{Stored as StoredCall
 ghost use Rattle.live_segment.specs.Rejoining.{IsJoined, IsJoinCause, StandsAfter, call_in};
 
 use crate::live::Live;
+use live_calls::{NewRefused, Segment, the_headline_holds};
 use live_record::Piece;
 use pgn_ids::Address;
 use segment_law::{Call, Refusal};
 use std::alloc::{AllocError, Global};
 use stored_calls::{Stored, StoredCalls};
-use watched_segment::{NewRefused, Segment, the_headline_holds};
 
 /// The pieces are handed back. Without a refusal there was no memory.
 #[derive(Debug, Drop)]

@@ -6,20 +6,19 @@ ghost use Rattle.segment_law.specs.Segment.{waiting_at};
 ghost use Rattle.segment_law.specs.Readers.{next_pump, is_due};
 ghost use Rattle.segment_state.specs.Next.{is_active};
 ghost use Rattle.live_calls.specs.declared.call.WorkerCall.TheVariants.{Fire as FireCall, Overrun as OverrunCall};
-ghost use Rattle.watched_segment.specs.Lowest.{IsNext};
+ghost use Rattle.live_calls.specs.Lowest.{IsNext};
 ghost use Rattle.live_segment.specs.Offers.{IsAtRest};
 ghost use Rattle.live_segment.specs.Turns.{Finishes, is_stuck, point, no_turn, one_more, after_refusal, after_reply, after_accept, Makes, Accepts, AcceptsOne, AcceptsBelow, MakesWhere, PumpsTo, StationTurn, BusTurn, state_of};
 
 use crate::live::Live;
 use crate::refused::Accepted;
 use bus_order::MAX_KEPT;
-use live_calls::WorkerCall;
+use live_calls::{WorkerCall, lowest_front};
 use message_events::Events;
 use pgn_ids::Address;
 use segment_law::Refusal;
 use segment_state::{Made, Passing};
 use tx_queue::MAX_FRAMES;
-use watched_segment::lowest_front;
 
 /// What one turn did: how many calls were applied, up to the last value, and whether the worker ends since no more calls can
 /// be stored.

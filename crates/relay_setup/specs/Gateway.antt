@@ -10,7 +10,7 @@ use Rattle.segment_law.specs.declared.call.Call.TheVariants as calls
 use Rattle.segment_law.specs.declared.refusal.Refusal.{Refusal}
 use Rattle.segment_law.specs.declared.refusal.Refusal.TheVariants.{NoSuchPort, NoSuchStation, SameStation}
 use Rattle.stored_calls.specs.declared.stored.Stored.{Stored}
-use Rattle.live_segment.specs.LiveView.{is_station_of}
+use Rattle.script_setup.specs.LiveView.{is_station_of}
 use Rattle.live_record.specs.declared.calls.TheConstants.{MOST_CALLS}
 use Rattle.script_commands.specs.Words.{words_of}
 use Rattle.script_commands.specs.Values.{◌>>=◌}

@@ -8,11 +8,10 @@ ghost use Rattle.relay_setup.specs.Gateway.{plans_of, Done, routed_by, not_route
 
 use crate::gateway::{Gateway, Passage, Routing};
 use line_faults::{Fault, LineError};
-use live_segment::Inbox;
 use pgn_ids::{Address, Pgn};
 use port_table::PortId;
 use script_commands::{RouteWords, read_route};
-use script_setup::{Message, Setup, Uncut};
+use script_setup::{Inbox, Message, Setup, Uncut};
 use segment_law::{Call, Refusal};
 use std::alloc::Global;
 use stored_calls::StoredCalls;

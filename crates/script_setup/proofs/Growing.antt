@@ -10,7 +10,7 @@ use Rattle.segment_law.specs.declared.refusal.Refusal.{Refusal}
 use Rattle.segment_law.specs.declared.refusal.Refusal.TheVariants.{BadAddresses}
 use Rattle.segment_law.specs.declared.reply.Reply.{Reply}
 use Rattle.segment_law.specs.declared.reply.Reply.TheVariants.{Opened, Sent, Refused, Done as Told}
-use Rattle.reply_law.specs.Replies.{reply_of}
+use Rattle.live_record.specs.Replies.{reply_of}
 use Rattle.stored_calls.specs.declared.stored.Stored.{Stored}
 use Rattle.live_record.specs.Record.{trail}
 use Rattle.script_commands.specs.Words.{is_ascii}

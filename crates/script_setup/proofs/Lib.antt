@@ -1,2 +1,3 @@
 pub mod TextsGrow
 pub mod Growing
+pub mod Reports

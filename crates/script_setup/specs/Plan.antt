@@ -10,7 +10,7 @@ use Rattle.segment_law.specs.declared.refusal.Refusal.{Refusal}
 use Rattle.segment_law.specs.declared.refusal.Refusal.TheVariants.{BadAddresses, NoSuchStation}
 use Rattle.segment_law.specs.declared.reply.Reply.{Reply}
 use Rattle.segment_law.specs.declared.reply.Reply.TheVariants.{Opened, Sent, Refused, Done as Told}
-use Rattle.reply_law.specs.Replies.{reply_of}
+use Rattle.live_record.specs.Replies.{reply_of}
 use Rattle.segment_rings.specs.Ends.{InboxEnd}
 use Rattle.segment_rings.specs.Submitting.{submit_refusal}
 use Rattle.stored_calls.specs.declared.stored.Stored.{Stored}

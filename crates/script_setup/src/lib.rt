@@ -7,6 +7,7 @@ mod planning;
 mod setup;
 mod uncut;
 
+pub use live_segment::{Delivery, Inbox, Live, Note};
 pub use obeying::obey_words;
 pub use setup::{Message, Setup, ports_of};
 pub use uncut::Uncut;

@@ -4,7 +4,7 @@ use Rattle.std.proofs.lemmas.List.{append-nil}
 use Rattle.bus_frame.specs.Frames.{CanFrame}
 use Rattle.pgn_ids.specs.declared.address.Address.{Address}
 use Rattle.tx_queue.specs.Queue.{front}
-use Rattle.station_lanes.specs.LaneReaders.{missing_at}
+use Rattle.station_core.specs.Lanes.{missing_at}
 use Rattle.station_core.specs.Station.{Station}
 use Rattle.segment_law.specs.Segment.{Segment, station_at, waiting_at}
 use Rattle.segment_law.specs.Calls.{applied, is_address, is_call}

@@ -38,9 +38,7 @@ use Rattle.lane_core.specs.Hear.{heard, heard_by, connection_heard}
 use Rattle.lane_core.specs.Answer.{answered, answered_by}
 use Rattle.lane_core.specs.Pump.{begins, idle_pumped, after_packet, front_bytes, pumped, pumped_by}
 use Rattle.lane_core.specs.Fire.{probe_fired, fired, fired_by}
-use Rattle.station_lanes.specs.Lanes.{Lanes}
-use Rattle.station_lanes.specs.LaneCalls.{stepped_lanes, lane_to}
-use Rattle.station_lanes.specs.LaneReaders.{overrun_lanes}
+use Rattle.station_core.specs.Lanes.{Lanes, stepped_lanes, lane_to, overrun_lanes}
 use Rattle.segment_law.specs.Reached.{IsFitMessage, IsFitLane, AreFitLanes}
 
 module _ (a : Address) (to : ℕ) where

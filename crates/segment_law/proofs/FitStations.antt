@@ -16,15 +16,10 @@ use Rattle.lane_core.specs.Step.{nothing_to_do, LaneStep}
 use Rattle.lane_core.specs.Pump as lane-pump
 use Rattle.lane_core.specs.Fire as lane-fire
 use Rattle.lane_core.specs.Cancel as lane-cancel
-use Rattle.session_table.specs.DueOrder.{first_due}
-use Rattle.session_table.specs.declared.key.Key.{Key}
-use Rattle.session_table.specs.declared.key.SessionKind.TheVariants as session
-use Rattle.station_lanes.specs.Lanes.{Lanes}
-use Rattle.station_lanes.specs.LaneCalls.{stepped_lanes}
-use Rattle.station_lanes.specs.LaneReaders.{due_lane}
-use Rattle.station_sessions.specs.Receiving.{aborted_at, fired_at}
+use Rattle.station_core.specs.Sessions.{first_due, Key, aborted_at, fired_at, key_of}
+use Rattle.station_core.specs.SessionKinds as session
+use Rattle.station_core.specs.Lanes.{Lanes, stepped_lanes, due_lane}
 use Rattle.station_core.specs.Station.{Station, StationStep, new_station, quietly, queues, by_session, by_lane}
-use Rattle.station_sessions.specs.Opening.{key_of}
 use Rattle.station_core.specs.Sending.{lane_of, sent, pumped, cancelled}
 use Rattle.station_core.specs.Taking.{answer, request_taken, ack_taken, cm_taken, wire_taken, meaning_taken, looks_at, taken}
 use Rattle.station_core.specs.Timers.{lane_fired, fired}

@@ -18,7 +18,7 @@ use Rattle.port_table.specs.Ports.{are_full, is_open, is_paused}
 use Rattle.lane_core.specs.Lane.{longest_to, is_full}
 use Rattle.lane_core.specs.declared.refused.PumpRefused.{PumpRefused}
 use Rattle.lane_core.specs.declared.refused.PumpRefused.TheVariants as pump
-use Rattle.station_lanes.specs.LaneReaders.{refusal_at, is_pending_at, queues_abort_at}
+use Rattle.station_core.specs.Lanes.{refusal_at, is_pending_at, queues_abort_at}
 use Rattle.station_core.specs.Station.{Station, StationStep}
 use Rattle.station_core.specs.Sending.{lane_of, pumped, cancelled}
 use Rattle.station_core.specs.Taking.{is_malformed_for, taken}

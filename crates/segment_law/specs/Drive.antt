@@ -3,7 +3,7 @@ use Rattle.std.specs.Prelude.{ℕ, zero, suc, ◌+◌, Bool, true, ◌&&◌, nat
 use Rattle.bus_frame.specs.Frames.{CanFrame}
 use Rattle.pgn_ids.specs.declared.address.Address.{Address}
 use Rattle.tx_queue.specs.Queue.{front}
-use Rattle.station_lanes.specs.LaneReaders.{missing_at}
+use Rattle.station_core.specs.Lanes.{missing_at}
 use Rattle.message_events.specs.declared.event.Event.{Event}
 use Rattle.station_core.specs.Station.{Station}
 use Rattle.segment_law.specs.Segment.{Segment, has_station, station_at, waiting_at}

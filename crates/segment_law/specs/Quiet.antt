@@ -19,13 +19,10 @@ use Rattle.lane_core.specs.Lane.{Lane, kind_for}
 use Rattle.lane_core.specs.declared.message.Pending.{Pending}
 use Rattle.lane_core.specs.declared.place.UnderWay.TheVariants.{Nothing}
 use Rattle.lane_core.specs.declared.probe.Standing.TheVariants.{Settled}
-use Rattle.session_table.specs.Key.{session_for}
-use Rattle.session_table.specs.declared.TheConstants.{MAX_SESSIONS}
-use Rattle.session_table.specs.declared.key.SessionKind.{SessionKind}
-use Rattle.session_table.specs.declared.key.SessionKind.TheVariants as session
+use Rattle.station_core.specs.Sessions.{session_for, MAX_SESSIONS, SessionKind, key_of, others_than}
+use Rattle.station_core.specs.SessionKinds as session
 use Rattle.message_events.specs.declared.event.Event.{Event}
 use Rattle.message_events.specs.declared.event.Event.TheVariants as event
-use Rattle.station_sessions.specs.Opening.{key_of, others_than}
 use Rattle.station_core.specs.Station.{Station}
 use Rattle.segment_law.specs.Segment.{Segment, has_station, station_at, lane_at, waiting_at}
 use Rattle.segment_law.specs.Record.{Record, StandsAt}

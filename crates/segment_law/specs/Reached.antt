@@ -9,7 +9,7 @@ use Rattle.bus_order.specs.Bus.{Bus, lowest}
 use Rattle.bus_order.specs.Kept.{IsSound}
 use Rattle.lane_core.specs.Lane.{Lane, longest_to}
 use Rattle.lane_core.specs.declared.message.Pending.{Pending}
-use Rattle.station_lanes.specs.Lanes.{Lanes}
+use Rattle.station_core.specs.Lanes.{Lanes}
 use Rattle.station_core.specs.Station.{Station}
 use Rattle.segment_law.specs.Segment.{Segment, place_of}
 

@@ -7,7 +7,7 @@ use Rattle.pgn_ids.specs.declared.address.Address.{Address}
 use Rattle.tx_queue.specs.Queue.{front}
 use Rattle.bus_order.specs.Bus.{next_frame, frame_again}
 use Rattle.lane_core.specs.declared.sight.LaneSight.{LaneSight}
-use Rattle.station_lanes.specs.LaneReaders.{least_below, pumping_lane}
+use Rattle.station_core.specs.Lanes.{least_below, pumping_lane}
 use Rattle.message_events.specs.declared.event.Event.{Event}
 use Rattle.message_events.specs.declared.event.Event.TheVariants as event
 use Rattle.station_core.specs.Station.{Station}

@@ -4,7 +4,7 @@ use Rattle.pgn_ids.specs.declared.address.Address.{Address}
 use Rattle.port_table.specs.declared.port.PortId.{PortId}
 use Rattle.segment_law.specs.Headline.{Headline}
 use Rattle.live_record.specs.Record.{Trail, trail}
-use Rattle.live_segment.specs.LiveView.{LiveView, Laws}
+use Rattle.script_setup.specs.LiveView.{LiveView, Laws}
 use Rattle.script_text.specs.Parts.{line}
 use Rattle.script_setup.specs.declared.setup.Message.{Message}
 use Rattle.segment_report.specs.Texts.{below, ports_at, clients_at}

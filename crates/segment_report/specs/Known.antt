@@ -2,8 +2,8 @@
 use Rattle.std.specs.Prelude.{◌≡◌, ℕ, ◌<◌, ◌≤◌, List, [], length, slice_index_or, All}
 use Rattle.pgn_ids.specs.declared.address.Address.{Address}
 use Rattle.port_table.specs.declared.port.PortId.{PortId}
-use Rattle.live_segment.specs.LiveView.{LiveView, ClientView, PortView}
-use Rattle.live_segment.specs.Reports.{HasPort}
+use Rattle.script_setup.specs.LiveView.{LiveView, ClientView, PortView}
+use Rattle.script_setup.specs.Reports.{HasPort}
 
 -- those of these ports that one station has are ports of the segment
 abbrev pub ArePortsAt : (station : ℕ) → List PortView → List PortId → Type 0

@@ -3,7 +3,7 @@ use Rattle.std.specs.Prelude.{◌≡◌, ℕ, ◌+◌, ◌==◌, List, [], ◌�
 use Rattle.std.specs.Bool.{MatchBool}
 use Rattle.pgn_ids.specs.declared.address.Address.{Address}
 use Rattle.live_record.specs.Record.{Trail, trail, notes_of}
-use Rattle.live_segment.specs.LiveView.{LiveView}
+use Rattle.script_setup.specs.LiveView.{LiveView}
 use Rattle.script_setup.specs.declared.setup.Message.{Message}
 use Rattle.segment_report.specs.Known.{HaveClients}
 

@@ -7,11 +7,10 @@ ghost use Rattle.segment_report.specs.Known.{AreKnown, IsThisSegment};
 ghost use Rattle.segment_report.specs.Noted.{HasRunOut};
 
 use crate::text::{are_same, has_run_out, print_clients, print_ports};
-use live_segment::Live;
 use pgn_ids::Address;
 use port_table::PortId;
 use script_runs::{Lost, Told};
-use script_setup::Message;
+use script_setup::{Live, Message};
 use script_text::print_text;
 use std::alloc::Global;
 

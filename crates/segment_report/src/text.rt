@@ -2,16 +2,15 @@
 ghost use Rattle.std.specs.Prelude.{◌≡◌, ◌++◌, ◌==◌, ◌<◌, ◌≤◌, ◌↔◌, [], true, false, suc, length, All, OnOk, IfErr, IsTrue, MatchOption};
 ghost use Rattle.script_runs.specs.declared.ending.Lost.TheVariants.{NotThisSegment};
 ghost use Rattle.live_record.specs.Record.{trail, given, notes_of};
-ghost use Rattle.live_segment.specs.Reports.{HasPort};
+ghost use Rattle.script_setup.specs.Reports.{HasPort};
 ghost use Rattle.segment_report.specs.Texts.{below, given_lines, port_lines, ports_at, numbered_lines, highest, outcome_lines, clients_at};
 ghost use Rattle.segment_report.specs.Known.{ArePorts, ArePortsAt, HaveClients, HaveClientsAt};
 ghost use Rattle.segment_report.specs.Noted.{count_from, HasRunOut};
 
-use live_segment::{Delivery, Live, Note};
 use pgn_ids::Address;
 use port_table::PortId;
 use script_runs::Lost;
-use script_setup::Message;
+use script_setup::{Delivery, Live, Message, Note};
 use script_text::{print_given, print_outcome, print_port};
 use std::alloc::AllocError;
 

@@ -9,3 +9,6 @@ pub mod Closing
 pub mod Overruns
 pub mod Refusals
 pub mod Next
+pub mod Sessions
+pub mod SessionKinds
+pub mod Lanes

@@ -2,9 +2,9 @@ use Rattle.std.proofs.Common.{◌≡◌, subst}
 use Rattle.segment_law.specs.Segment.{Segment}
 use Rattle.segment_law.specs.Calls.{applied}
 use Rattle.segment_law.specs.declared.reply.Reply.{Reply}
-use Rattle.reply_law.specs.Replies.{Follows}
+use Rattle.live_record.specs.Replies.{Follows}
 use Rattle.segment_law.proofs.Drifting.{stands_drifts}
-use Rattle.reply_law.proofs.Following.{follows}
+use Rattle.live_record.proofs.Replies.{follows}
 use Rattle.live_ends.proofs.Results.{on_ok}
 use Rattle.live_calls.proofs.step.make.Goals as goal
 

@@ -12,9 +12,9 @@ use Rattle.segment_state.specs.Answers.{made_as, reply_with}
 use Rattle.segment_state.specs.declared.made.Made.{Made}
 use Rattle.segment_state.specs.declared.made.Tried.{Tried}
 use Rattle.segment_state.specs.declared.made.Tried.TheVariants as tried
-use Rattle.reply_law.specs.Replies.{Follows, IsAnsweredBy, IsRefusal, opens}
+use Rattle.live_record.specs.Replies.{Follows, IsAnsweredBy, IsRefusal, opens}
 use Rattle.segment_law.proofs.Drifting.{stands_drifts}
-use Rattle.reply_law.proofs.Following.{follows}
+use Rattle.live_record.proofs.Replies.{follows}
 use Rattle.live_calls.specs.declared.call.WorkerCall.{WorkerCall}
 use Rattle.live_calls.specs.Words.{call_of}
 use Rattle.live_calls.proofs.Applying.{never_opens, never_sends}

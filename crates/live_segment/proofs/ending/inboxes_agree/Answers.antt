@@ -2,7 +2,7 @@ use Rattle.std.proofs.Common.{◌≡◌, ℕ, ◌<◌, length, get_or, true, fal
 use Rattle.std.specs.Prelude.{IsTrue}
 use Rattle.std.proofs.lemmas.List.{get_or_default}
 use Rattle.live_segment.specs.Reports.{InboxAgrees}
-use Rattle.watched_segment.proofs.Fronts.{before_or_at}
+use Rattle.live_calls.proofs.Lowest.{before_or_at}
 use Rattle.live_segment.proofs.ending.inboxes_agree.Goals as goal
 
 pub returns-then-not-inbox_agrees : goal.returns-then-not-inbox_agrees

@@ -4,7 +4,7 @@ use Rattle.std.proofs.lemmas.Bool.{eqb-false}
 use Rattle.std.proofs.lemmas.List.{get_or_default, append-nil}
 use Rattle.port_table.specs.declared.port.PortId.{PortId}
 use Rattle.live_record.specs.Record.{given, trail}
-use Rattle.live_segment.specs.Reports.{HasPort}
+use Rattle.script_setup.specs.Reports.{HasPort}
 use Rattle.segment_report.specs.Texts.{port_lines}
 use Rattle.segment_report.proofs.Belows.{one_put}
 use Rattle.segment_report.proofs.Knowns.{up_to, handed_up}

@@ -2,7 +2,7 @@ use Rattle.std.proofs.Common.{◌≡◌, ◌<◌, ◌++◌, ℕ, take}
 use Rattle.std.specs.Prelude.{slice_index_or}
 use Rattle.port_table.specs.declared.port.PortId.{PortId}
 use Rattle.live_record.specs.Record.{trail}
-use Rattle.live_segment.specs.Reports.{HasPort}
+use Rattle.script_setup.specs.Reports.{HasPort}
 use Rattle.segment_report.specs.Texts.{ports_at}
 use Rattle.segment_report.proofs.text.print_ports_at.Given as goal
 

@@ -1,8 +1,8 @@
 use Rattle.std.proofs.Common.{◌≡◌, ℕ, drop, subst}
 use Rattle.std.specs.Prelude.{MatchOption}
 use Rattle.live_record.specs.Record.{given, trail}
-use Rattle.live_segment.specs.Reports.{HasPort}
-use Rattle.live_segment.proofs.Uncut.{given_uncut}
+use Rattle.script_setup.specs.Reports.{HasPort}
+use Rattle.script_setup.proofs.Reports.{given_uncut}
 use Rattle.segment_report.proofs.text.whole_given.Goals as goal
 
 pub returns : goal.returns

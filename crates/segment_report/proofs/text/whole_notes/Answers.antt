@@ -1,7 +1,7 @@
 use Rattle.std.proofs.Common.{◌≡◌, ℕ, ◌<◌, ◌≤◌, length, drop, subst}
 use Rattle.std.specs.Prelude.{MatchOption}
 use Rattle.live_record.specs.Record.{notes_of, trail}
-use Rattle.live_segment.proofs.Uncut.{notes_uncut}
+use Rattle.script_setup.proofs.Reports.{notes_uncut}
 use Rattle.segment_report.proofs.text.whole_notes.Goals as goal
 
 pub returns : goal.returns

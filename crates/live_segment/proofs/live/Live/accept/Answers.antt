@@ -7,7 +7,7 @@ use Rattle.segment_law.specs.Calls.{called}
 use Rattle.segment_law.specs.declared.call.Call.{Call}
 use Rattle.segment_law.specs.declared.reply.Reply.{Reply}
 use Rattle.segment_law.specs.declared.reply.Reply.TheVariants.{Opened, Sent, Refused, Done}
-use Rattle.reply_law.specs.Replies.{reply_of, left_by, IsRefusal, IsAnsweredBy, Follows}
+use Rattle.live_record.specs.Replies.{reply_of, left_by, IsRefusal, IsAnsweredBy, Follows}
 use Rattle.segment_law.specs.declared.refusal.Refusal.TheVariants.{TraceFull}
 use Rattle.segment_rings.specs.Views.{SeatView, new_seat, popped_one}
 use Rattle.stored_calls.specs.declared.stored.Stored.{Stored}

@@ -9,7 +9,7 @@ use Rattle.segment_law.specs.declared.reply.Reply.{Reply}
 use Rattle.segment_law.specs.declared.reply.Reply.TheVariants.{Done, Refused}
 use Rattle.segment_state.specs.Answers.{refusal_of, reply_with}
 use Rattle.segment_state.specs.declared.made.Made.{Made}
-use Rattle.reply_law.specs.Replies.{reply_of, left_by, opens, IsRefusal, IsAnsweredBy, Follows}
+use Rattle.live_record.specs.Replies.{reply_of, left_by, opens, IsRefusal, IsAnsweredBy, Follows}
 use Rattle.segment_rings.specs.Views.{SeatView}
 use Rattle.stored_calls.specs.declared.stored.Stored.{Stored}
 use Rattle.live_record.specs.declared.owed.Owed.{Owed}

@@ -5,7 +5,7 @@ use Rattle.std.proofs.lemmas.Bool.{false≢true}
 use Rattle.segment_law.specs.declared.call.Call.{Call}
 use Rattle.segment_law.specs.declared.reply.Reply.TheVariants.{Done}
 use Rattle.segment_law.specs.Record.{StandsAt}
-use Rattle.reply_law.specs.Replies.{reply_of, left_by, Follows}
+use Rattle.live_record.specs.Replies.{reply_of, left_by, Follows}
 use Rattle.segment_rings.specs.Views.{SeatView}
 use Rattle.stored_calls.specs.declared.stored.Stored.{Stored}
 use Rattle.live_record.specs.declared.owed.Owed.{Owed}

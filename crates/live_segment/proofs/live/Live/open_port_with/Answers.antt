@@ -7,7 +7,7 @@ use Rattle.segment_law.specs.Calls.{called}
 use Rattle.segment_law.specs.declared.refusal.Refusal.TheVariants.{TraceFull}
 use Rattle.segment_law.specs.declared.reply.Reply.TheVariants.{Opened}
 use Rattle.segment_state.specs.Answers.{refusal_of}
-use Rattle.reply_law.specs.Replies.{reply_of, IsRefusal, IsAnsweredBy, Follows}
+use Rattle.live_record.specs.Replies.{reply_of, IsRefusal, IsAnsweredBy, Follows}
 use Rattle.segment_rings.specs.Views.{DoorView, new_door}
 use Rattle.stored_calls.specs.declared.stored.Stored.{Stored}
 use Rattle.live_record.specs.Record.{trail, stored}
