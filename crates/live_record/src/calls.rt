@@ -1,4 +1,6 @@
 //! The calls that were made: those that are stored, and the pieces in which those before them were handed out.
+ghost use Rattle.live_record.specs.declared.calls.TheConstants.{CUT_AT, MOST_CALLS};
+
 use segment_law::Call;
 use segment_rings::Outlet;
 use std::alloc::{AllocError, Global};
@@ -10,6 +12,12 @@ pub const MOST_CALLS: usize = 1_000_000;
 
 /// At how many stored calls a record is cut as a rule: 100,000 more can be made while memory for a cut is lacking.
 pub const CUT_AT: usize = 900_000;
+
+/// A law: at most 1,000,000 calls are stored since the last cut, and a record is cut as a rule at 900,000.
+pub fn at_most_a_million_calls()
+    ensures most { MOST_CALLS ≡ 1000000 }
+    ensures cut { CUT_AT ≡ 900000 }
+{}
 
 /// The calls that were stored between two cuts, each with the client whose message it sends. The pieces of a segment are
 /// numbered from 1.

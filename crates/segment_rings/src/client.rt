@@ -90,7 +90,7 @@ impl Client {
     ghost use Rattle.rtrb.specs.Ring.{sent, received, known_free};
     ghost use Rattle.segment_law.specs.declared.refusal.Refusal.{Refusal};
     ghost use Rattle.segment_law.specs.declared.refusal.Refusal.TheVariants as refusal;
-    ghost use Rattle.segment_rings.specs.Ends.{ClientEnd, new_client_end, submits, reads, lets_read_go, SameClient};
+    ghost use Rattle.segment_rings.specs.Ends.{ClientEnd, new_client_end, ring_places, submits, reads, lets_read_go, SameClient};
     ghost use Rattle.segment_rings.specs.Tails.{GoesOn};
     ghost use Rattle.segment_rings.specs.Submitting.{why_refused};
 
@@ -103,7 +103,7 @@ impl Client {
         bell: Bell,
     ) -> Client
         requires submissions { sent submissions.0 ≡ [] }
-        requires free { known_free submissions.0 ≡ 64 }
+        requires free { known_free submissions.0 ≡ ring_places }
         requires notes { received notes.0 ≡ [] }
         ensures { result ≡ new_client_end id station }
     {
