@@ -5,6 +5,7 @@ use lib.ListN.{get_elem?}
 use Rattle.crossbeam_channel.specs.Fifo.{Pushes, Pops, Forks, Merges, Learns}
 use Rattle.atomic_table.proofs.Lists.{at_set, at_snoc}
 use Rattle.segment_rings.specs.declared.words.Delivery.{Delivery}
+use Rattle.port_relay.specs.declared.line.TheConstants.{LINE_PLACES}
 use Rattle.port_relay.specs.declared.line.Log.{Log}
 use Rattle.port_relay.specs.Line.{log, Fits, KeepsOrder}
 
@@ -24,10 +25,10 @@ each_set F views pass w mine others j u e = ⊎_elim (λ (x : (j ≡ pass) × (w
 pub begins : KeepsOrder [] (log true true [] [] ∷ [])
 begins = (0, 0, [], [], omega arith, refl, each_set (Fits 0 0 [] []) (log true true [] [] ∷ []) 0 (log true true [] []) ((λ _. (refl, refl)), λ _. (refl, refl)) (λ j u other e. absurd (other (at_end [] _ u j (λ x. some-ne-none u (sym x)) e))))
 
-one_more : (items : List Delivery) (x : Delivery) → length items < 16 → length (items ++ x ∷ []) ≤ 16
+one_more : (items : List Delivery) (x : Delivery) → length items < LINE_PLACES → length (items ++ x ∷ []) ≤ LINE_PLACES
 one_more items x few = omega (arith, length-append items (x ∷ []))
 
-pub puts_one : (n pass : ℕ) (v : Log) (x : Delivery) → n ≡ 16 → v.puts ≡ true → Pushes KeepsOrder n pass v x (λ w. w ≡ log v.puts v.takes (v.put ++ x ∷ []) v.taken)
+pub puts_one : (n pass : ℕ) (v : Log) (x : Delivery) → n ≡ LINE_PLACES → v.puts ≡ true → Pushes KeepsOrder n pass v x (λ w. w ≡ log v.puts v.takes (v.put ++ x ∷ []) v.taken)
 puts_one n pass v x places may items views room h at = let w : Log = log v.puts v.takes (v.put ++ x ∷ []) v.taken in let mine = h.6 pass v at in let put = h.2 ++ x ∷ [] in (
   w,
   (
@@ -43,7 +44,7 @@ puts_one n pass v x places may items views room h at = let w : Log = log v.puts 
   refl,
 )
 
-fewer : (x : Delivery) (items : List Delivery) → length (x ∷ items) ≤ 16 → length items ≤ 16
+fewer : (x : Delivery) (items : List Delivery) → length (x ∷ items) ≤ LINE_PLACES → length items ≤ LINE_PLACES
 fewer x items few = omega (arith, few)
 
 behind : (put taken items : List Delivery) (x : Delivery) → put ≡ taken ++ x ∷ items → length taken < length put
@@ -87,8 +88,8 @@ merges pass v other u a b items views h at two at' = let both : Log = log true t
     let now : Each Now vs = each_set Now views pass both (λ _. ((λ _. mine.0 a), λ _. (refl, theirs.1))) (λ j y _ e apart. ((h.6 j y e).0, λ p. absurd (apart (((h.6 j y e).1 p).0 ∙ sym theirs.0)))) in
     (h.0, pass, h.2, h.3, h.4, h.5, each_set (Fits h.0 pass h.2 h.3) vs other (log false false [] []) ((λ p. absurd (true≢false (sym p))), λ p. absurd (true≢false (sym p))) (λ j y apart e. now j y e apart))
 
-pub holds_the_rest : (pass : ℕ) (v : Log) → v.puts ≡ true → v.takes ≡ true → Learns KeepsOrder pass v (λ items. (length items ≤ 16) × (v.put ≡ v.taken ++ items))
+pub holds_the_rest : (pass : ℕ) (v : Log) → v.puts ≡ true → v.takes ≡ true → Learns KeepsOrder pass v (λ items. (length items ≤ LINE_PLACES) × (v.put ≡ v.taken ++ items))
 holds_the_rest pass v a b items views h at = let mine = h.6 pass v at in (h.4, (mine.0 a).1 ∙ h.5 ∙ ap (λ l. l ++ items) (sym (mine.1 b).1))
 
-pub holds_few : (put taken items : List Delivery) → length items ≤ 16 → put ≡ taken ++ items → length put ≤ length taken + 16
+pub holds_few : (put taken items : List Delivery) → length items ≤ LINE_PLACES → put ≡ taken ++ items → length put ≤ length taken + LINE_PLACES
 holds_few put taken items few e = omega (arith, ap length e, length-append taken items, few)

@@ -11,6 +11,7 @@ mod route;
 mod stopping;
 mod working;
 
+pub use line::{LINE_PLACES, at_most_16_messages};
 pub use relaying::{Relayed, relay, relay_until};
 pub use route::Route;
 pub use segment_shared::Gate;

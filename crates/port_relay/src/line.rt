@@ -4,6 +4,7 @@ ghost use Rattle.std.specs.Prelude.{◌≡◌, ◌+◌, ◌≤◌, ◌<◌, true
 ghost use Rattle.crossbeam_channel.specs.Claims.{view, IsSeatAt};
 ghost use Rattle.crossbeam_channel.specs.Ends.{sends_on, receives_on, ruled_capacity};
 ghost use Rattle.segment_rings.specs.declared.words.Delivery.{Delivery};
+ghost use Rattle.port_relay.specs.declared.line.TheConstants.{LINE_PLACES};
 ghost use Rattle.port_relay.specs.Line.{log, in_hand};
 
 use crossbeam_channel::protocol::{Join, Lesson, Outcome, Protocol, Split};
@@ -14,7 +15,12 @@ use std::collections::LinkedList;
 use std::sync::Wait;
 
 /// How many messages the line holds.
-pub(crate) const LINE_PLACES: usize = 16;
+pub const LINE_PLACES: usize = 16;
+
+/// A law: the line holds at most 16 messages.
+pub fn at_most_16_messages()
+    ensures { LINE_PLACES ≡ 16 }
+{}
 
 // What a pass may do, and what it has put and taken. No value of it is made.
 pub(crate) struct Log {
@@ -79,7 +85,7 @@ impl Lesson<Delivery, Log> for HasTaken {
 struct Rest;
 
 impl Lesson<Delivery, Log> for Rest {
-    ghost fact = { λ v items. v.puts ≡ true → v.takes ≡ true → (length items ≤ 16) × (v.put ≡ v.taken ++ items) };
+    ghost fact = { λ v items. v.puts ≡ true → v.takes ≡ true → (length items ≤ LINE_PLACES) × (v.put ≡ v.taken ++ items) };
 }
 
 pub(crate) type Way = Pass<Delivery, Log>;
@@ -90,7 +96,7 @@ pub(crate) type Receiver = RuledReceiver<Delivery, Log, InOrder>;
 
 /// The two ends of an empty line, with a pass that puts and one that takes.
 pub(crate) fn open(alloc: Global) -> Result<(Sender, Receiver, Way, Way), AllocError>
-    ensures line { IfOk result (λ l. (receives_on l.1 ≡ sends_on l.0) × (ruled_capacity (sends_on l.0) ≡ 16)) }
+    ensures line { IfOk result (λ l. (receives_on l.1 ≡ sends_on l.0) × (ruled_capacity (sends_on l.0) ≡ LINE_PLACES)) }
     ensures seats { IfOk result (λ l. IsSeatAt (sends_on l.0) l.2 × IsSeatAt (sends_on l.0) l.3) }
     ensures views { IfOk result (λ l. (view l.2 ≡ log true false [] []) × (view l.3 ≡ log false true [] [])) }
 {
@@ -106,7 +112,7 @@ pub(crate) fn put<R: Wait>(
     pass: &mut Way,
     delivery: Delivery,
 ) -> Option<Delivery>
-    requires places { ruled_capacity (sends_on sender.now) ≡ 16 }
+    requires places { ruled_capacity (sends_on sender.now) ≡ LINE_PLACES }
     requires seat { IsSeatAt (sends_on sender.now) pass.old }
     requires may { (view pass.old).puts ≡ true }
     ensures seat { IsSeatAt (sends_on sender.now) pass.new }
@@ -140,7 +146,7 @@ pub(crate) fn rejoin(sender: &Sender, pass: &mut Way, other: Way)
     requires reader { (view other).takes ≡ true }
     ensures seat { IsSeatAt (sends_on sender.now) pass.new }
     ensures view { view pass.new ≡ log true true (view pass.old).put (view other).taken }
-    ensures few { length (view pass.new).put ≤ length (view pass.new).taken + 16 }
+    ensures few { length (view pass.new).put ≤ length (view pass.new).taken + LINE_PLACES }
 {
     sender.absorb::<Roles>(pass, other);
     sender.learn_as::<Rest>(pass);

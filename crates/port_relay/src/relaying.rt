@@ -5,6 +5,7 @@ ghost use Rattle.crossbeam_channel.specs.Ends.{sends_on, receives_on, ruled_capa
 ghost use Rattle.segment_rings.specs.Ends.{ClientEnd, InboxEnd};
 ghost use Rattle.segment_rings.specs.declared.words.Delivery.{Delivery};
 ghost use Rattle.port_relay.specs.declared.stopping.Ended.TheVariants.{Limit};
+ghost use Rattle.port_relay.specs.declared.line.TheConstants.{LINE_PLACES};
 ghost use Rattle.port_relay.specs.Line.{log, in_hand};
 ghost use Rattle.port_relay.specs.Working.{HasPulled, HasPushed};
 ghost use Rattle.port_relay.specs.Relaying.{IsRelayed};
@@ -40,9 +41,9 @@ fn gather<R: Wait>(
 ) -> Vec<Delivery>
     requires seat { IsSeatAt (receives_on line.now) pass.old }
     requires both { view pass.old ≡ log true true (view pass.old).put (view pass.old).taken }
-    requires few { length (view pass.old).put ≤ length (view pass.old).taken + 16 }
+    requires few { length (view pass.old).put ≤ length (view pass.old).taken + LINE_PLACES }
     requires empty { room.items ≡ [] }
-    requires room { 18 ≤ vec_capacity room }
+    requires room { LINE_PLACES + 2 ≤ vec_capacity room }
     ensures { (front : List Delivery) → front ++ in_hand first ≡ (view pass.old).taken → front ++ result.items ≡ (view pass.old).put ++ in_hand last }
 {
     let mut left = room;
@@ -69,7 +70,7 @@ fn settle<R: Wait>(
     requires seats { IsSeatAt (sends_on sender.now) puller.pass × IsSeatAt (sends_on sender.now) pusher.pass }
     requires may { ((view puller.pass).puts ≡ true) × ((view pusher.pass).takes ≡ true) }
     requires empty { room.items ≡ [] }
-    requires room { 18 ≤ vec_capacity room }
+    requires room { LINE_PLACES + 2 ≤ vec_capacity room }
     ensures left { (front : List Delivery) → front ++ in_hand pusher.worked.hand ≡ (view pusher.pass).taken → front ++ result.left.items ≡ (view puller.pass).put ++ in_hand puller.worked.hand }
     ensures pulled { result.pulled ≡ puller.worked.count }
     ensures pushed { result.pushed ≡ pusher.worked.count }
@@ -115,7 +116,7 @@ fn run_round<R: Threads + Wait + Sync, G: Gate + Sync>(
     pusher: &mut Side,
     terms: &Terms<'_, G>,
 )
-    requires line { (receives_on receiver.now ≡ sends_on sender.now) × (ruled_capacity (sends_on sender.now) ≡ 16) }
+    requires line { (receives_on receiver.now ≡ sends_on sender.now) × (ruled_capacity (sends_on sender.now) ≡ LINE_PLACES) }
     requires seats { IsSeatAt (sends_on sender.now) puller.old.pass × IsSeatAt (sends_on sender.now) pusher.old.pass }
     requires may { ((view puller.old.pass).puts ≡ true) × ((view pusher.old.pass).takes ≡ true) }
     requires within { puller.old.worked.count ≤ terms.now.limit }
@@ -147,7 +148,7 @@ fn run_rounds<R: Threads + Wait + Sync, G: Gate + Sync>(
     pusher: &mut Side,
     terms: &Terms<'_, G>,
 )
-    requires line { (receives_on receiver.now ≡ sends_on sender.now) × (ruled_capacity (sends_on sender.now) ≡ 16) }
+    requires line { (receives_on receiver.now ≡ sends_on sender.now) × (ruled_capacity (sends_on sender.now) ≡ LINE_PLACES) }
     requires seats { IsSeatAt (sends_on sender.now) puller.old.pass × IsSeatAt (sends_on sender.now) pusher.old.pass }
     requires puller { (view puller.old.pass ≡ log true false [] []) × (puller.old.worked.count ≡ 0) × (puller.old.worked.hand ≡ None) × (puller.old.course.ended ≡ None) }
     requires pusher { (view pusher.old.pass ≡ log false true [] []) × (pusher.old.worked.count ≡ 0) × (pusher.old.worked.hand ≡ None) }

@@ -4,6 +4,7 @@ ghost use Rattle.crossbeam_channel.specs.Claims.{view, IsSeatAt};
 ghost use Rattle.crossbeam_channel.specs.Ends.{sends_on, receives_on, ruled_capacity};
 ghost use Rattle.pgn_ids.specs.declared.address.Address.{Address};
 ghost use Rattle.segment_rings.specs.Ends.{ClientEnd, InboxEnd};
+ghost use Rattle.port_relay.specs.declared.line.TheConstants.{LINE_PLACES};
 ghost use Rattle.port_relay.specs.declared.line.Log.{Log};
 ghost use Rattle.port_relay.specs.declared.stopping.Ended.TheVariants.{Limit};
 ghost use Rattle.port_relay.specs.Working.{HasPulled, HasPushed};
@@ -151,7 +152,7 @@ fn receive_one(inbox: &mut Inbox, worked: &mut Worked, limit: u64) -> Option<End
 
 // Puts what is in hand into the line, if there is something and the line has a place.
 fn put_one<R: Wait>(rt: &R, line: &Sender, pass: &mut Way, worked: &mut Worked)
-    requires places { ruled_capacity (sends_on line.now) ≡ 16 }
+    requires places { ruled_capacity (sends_on line.now) ≡ LINE_PLACES }
     requires seat { IsSeatAt (sends_on line.now) pass.old }
     requires may { (view pass.old).puts ≡ true }
     ensures seat { IsSeatAt (sends_on line.now) pass.new }
@@ -175,7 +176,7 @@ fn pull_turns<R: Wait, G: Gate>(
     terms: &Terms<'_, G>,
     round: &Round,
 ) -> Course
-    requires places { ruled_capacity (sends_on line.now) ≡ 16 }
+    requires places { ruled_capacity (sends_on line.now) ≡ LINE_PLACES }
     requires seat { IsSeatAt (sends_on line.now) pass.old }
     requires may { (view pass.old).puts ≡ true }
     requires within { worked.old.count ≤ terms.now.limit }
@@ -227,7 +228,7 @@ pub(crate) fn pull<R: Wait, G: Gate>(
     terms: &Terms<'_, G>,
     round: &Round,
 )
-    requires places { ruled_capacity (sends_on line.now) ≡ 16 }
+    requires places { ruled_capacity (sends_on line.now) ≡ LINE_PLACES }
     requires seat { IsSeatAt (sends_on line.now) side.old.pass }
     requires may { (view side.old.pass).puts ≡ true }
     requires within { side.old.worked.count ≤ terms.now.limit }
