@@ -6,7 +6,7 @@ mod calls;
 mod compare;
 mod owed;
 
-pub use calls::{CUT_AT, Calls, MOST_CALLS, Piece};
+pub use calls::{CUT_AT, Calls, MOST_CALLS, Piece, at_most_a_million_calls};
 pub use compare::{
     accepted_begin, begins, copy_deliveries, copy_left, count_accepted, kept_from, notes_begin,
     pieces_accepted_begin,
