@@ -5,7 +5,7 @@ mod stops;
 
 use crate::checks::got;
 use pgn_ids::Address;
-use segment_shared::{Gate, Live, Tally, WorkerEnd};
+use segment_shared::{Clock, Gate, Live, Piece, PieceKeeper, Tally, WorkerEnd};
 use std::alloc::Global;
 use std::process::Abort;
 use std::sync::atomic::{AtomicU64, Ordering};
@@ -21,12 +21,12 @@ fn two(rt: &impl Abort, alloc: Global) -> Live {
 
 /// Lets all pass, and counts how often.
 #[derive(Drop)]
-struct Open {
+pub(crate) struct Open {
     passed: AtomicU64,
 }
 
 impl Open {
-    fn new() -> Open {
+    pub(crate) fn new() -> Open {
         Open {
             passed: AtomicU64::new(0),
         }
@@ -41,6 +41,34 @@ impl Gate for Open {
     fn pass(&self, _worker: u8, _turn: u64) {
         self.passed.fetch_add(1, Ordering::SeqCst);
     }
+}
+
+// A clock that stands until it is set, and a keeper that lets pieces go.
+#[derive(Drop)]
+struct Hand {
+    at: AtomicU64,
+}
+
+impl Hand {
+    fn new() -> Hand {
+        Hand {
+            at: AtomicU64::new(0),
+        }
+    }
+
+    fn set(&self, at: u64) {
+        self.at.store(at, Ordering::SeqCst);
+    }
+}
+
+impl Clock for Hand {
+    fn now(&self) -> u64 {
+        self.at.load(Ordering::SeqCst)
+    }
+}
+
+impl PieceKeeper for Hand {
+    fn keep(&self, _piece: Piece) {}
 }
 
 // How many calls a worker made, and why it ended.

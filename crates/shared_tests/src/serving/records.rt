@@ -1,8 +1,9 @@
 //! A full record ends every worker; those that cut the record never meet a full one.
 use super::{A, Open, R, told, two};
-use crate::checks::{got, holds, same};
+use crate::calls::is_done;
+use crate::checks::same;
 use segment_shared::{
-    Cutting, Live, MOST_CALLS, Piece, PieceKeeper, Reply, SharedSegment, WorkerCall, WorkerEnd,
+    Cutting, Live, MOST_CALLS, Piece, PieceKeeper, SharedSegment, WorkerCall, WorkerEnd,
     bus_worker, cutting_bus_worker, cutting_station_worker, station_worker,
 };
 use std::process::Abort;
@@ -12,9 +13,7 @@ use std::sync::atomic::{AtomicU64, Ordering};
 // Has so many calls stored.
 fn fill(rt: &impl Abort, live: &mut Live, calls: usize) {
     for _ in 0..calls {
-        let reply = got(rt, live.apply(WorkerCall::Tick { n: 1 }));
-        holds(rt, matches!(reply, Reply::Done(_)));
-        drop(reply);
+        is_done(rt, live.apply(WorkerCall::Tick { n: 1 }));
     }
 }
 
@@ -48,17 +47,15 @@ impl<'a, T: Wait> Counter<'a, T> {
         }
     }
 
-    fn pieces(&self) -> u64 {
-        self.pieces.load(Ordering::SeqCst)
-    }
-
-    fn calls(&self) -> u64 {
-        self.calls.load(Ordering::SeqCst)
-    }
-
-    // How many calls are stored.
-    fn stored(&self) -> u64 {
-        self.shared.lock(self.rt).calls().len() as u64
+    // How many pieces there are, how many calls they have, and how many are stored.
+    fn counted(&self) -> (u64, u64, u64) {
+        let pieces = self.pieces.load(Ordering::SeqCst);
+        let calls = self.calls.load(Ordering::SeqCst);
+        (
+            pieces,
+            calls,
+            self.shared.lock(self.rt).calls().len() as u64,
+        )
     }
 }
 
@@ -94,9 +91,7 @@ fn cut_a_full_record(rt: &(impl Abort + Wait), shared: &SharedSegment) {
     };
     let station = cutting_station_worker(rt, shared, R, &gate, &cutting, 3);
     same(rt, told(station), (0, WorkerEnd::Turns));
-    same(rt, keeper.pieces(), 1);
-    same(rt, keeper.calls(), MOST_CALLS as u64);
-    same(rt, keeper.stored(), 0);
+    same(rt, keeper.counted(), (1, MOST_CALLS as u64, 0));
 }
 
 #[test]
@@ -119,17 +114,12 @@ fn cut_every_seven(rt: &(impl Abort + Wait), shared: &SharedSegment) {
     };
     let bus = cutting_bus_worker(rt, shared, &gate, &cutting, 100);
     same(rt, bus.end, WorkerEnd::Turns);
-    same(rt, keeper.pieces(), 14);
-    same(
-        rt,
-        keeper.calls().saturating_add(keeper.stored()),
-        bus.calls,
-    );
+    let (pieces, calls, stored) = keeper.counted();
+    same(rt, (pieces, calls.saturating_add(stored)), (14, bus.calls));
     cutting.at = 0;
     let station = cutting_station_worker(rt, shared, A, &gate, &cutting, 3);
     same(rt, told(station), (0, WorkerEnd::Turns));
-    same(rt, keeper.pieces(), 15);
-    same(rt, keeper.calls(), bus.calls);
+    same(rt, keeper.counted(), (15, bus.calls, 0));
 }
 
 #[test]

@@ -1,10 +1,9 @@
 //! A stop of one call ends every worker.
-use super::{A, Open, R, told, two};
+use super::{A, Hand, Open, R, told, two};
 use crate::checks::same;
 use segment_shared::{
-    Clock, Cutting, Gate, Piece, PieceKeeper, SharedSegment, WorkerEnd, bus_worker,
-    clocked_bus_worker, clocked_station_worker, cutting_bus_worker, cutting_station_worker,
-    station_worker,
+    Cutting, Gate, SharedSegment, WorkerEnd, bus_worker, clocked_bus_worker,
+    clocked_station_worker, cutting_bus_worker, cutting_station_worker, station_worker,
 };
 use std::process::Abort;
 use std::sync::Wait;
@@ -39,19 +38,6 @@ impl<T: Wait> Gate for Stopping<'_, T> {
     }
 }
 
-#[derive(Drop)]
-struct Nobody {}
-
-impl PieceKeeper for Nobody {
-    fn keep(&self, _piece: Piece) {}
-}
-
-impl Clock for Nobody {
-    fn now(&self) -> u64 {
-        1_000
-    }
-}
-
 // A worker that is held at its gate ends in the turn for which the gate lets it go.
 fn stop_from_a_gate(rt: &(impl Abort + Wait), shared: &SharedSegment) {
     let gate = Stopping {
@@ -67,9 +53,10 @@ fn stop_from_a_gate(rt: &(impl Abort + Wait), shared: &SharedSegment) {
 // Each other worker of the segment, of each form, passes its gate once more.
 fn end_all(rt: &(impl Abort + Wait), shared: &SharedSegment) {
     let gate = Open::new();
-    let nobody = Nobody {};
+    let hand = Hand::new();
+    hand.set(1_000);
     let cutting = Cutting {
-        keeper: &nobody,
+        keeper: &hand,
         at: 1,
     };
     let most = u64::MAX;
@@ -78,8 +65,8 @@ fn end_all(rt: &(impl Abort + Wait), shared: &SharedSegment) {
         bus_worker(rt, shared, &gate, most),
         cutting_station_worker(rt, shared, R, &gate, &cutting, most),
         cutting_bus_worker(rt, shared, &gate, &cutting, most),
-        clocked_station_worker(rt, shared, R, &gate, &cutting, &nobody, most),
-        clocked_bus_worker(rt, shared, &gate, &cutting, &nobody, most),
+        clocked_station_worker(rt, shared, R, &gate, &cutting, &hand, most),
+        clocked_bus_worker(rt, shared, &gate, &cutting, &hand, most),
     ];
     for tally in &ends {
         same(rt, told(*tally), (0, WorkerEnd::Stopped));

@@ -1,6 +1,7 @@
 //! Clients and ports that have news, and an inbox with one place.
+use super::played::*;
 use super::steps::*;
-use segment_shared::{Client, Inbox, Live, MOST_PLACES, News, Places};
+use segment_shared::{Inbox, Live, MOST_PLACES, News, Places};
 use std::alloc::Global;
 use std::process::Abort;
 use tp_wire::Outcome;
@@ -11,49 +12,31 @@ fn narrow_port(rt: &impl Abort, live: &mut Live) -> Inbox {
     got(rt, live.open_port_with(R, feca(rt), 9, one))
 }
 
-fn is_named(rt: &impl Abort, live: &mut Live, named: Option<News>) {
-    same(rt, live.news(), named);
-}
-
-// Its client and its port are named once each.
-fn are_named(rt: &impl Abort, live: &mut Live, sender: &Client, inbox: &Inbox) {
-    is_named(rt, live, Some(News::Client(sender.id())));
-    is_named(rt, live, Some(News::Port(inbox.port())));
-    is_named(rt, live, None);
-}
-
-fn note_is(rt: &impl Abort, sender: &mut Client, outcome: Outcome) {
-    let note = got(rt, note(rt, sender).ok_or("no note"));
-    same(rt, note.outcome, outcome);
-}
-
-// Of two messages the second finds no place.
-fn send_two(
-    rt: &impl Abort,
-    alloc: Global,
-    live: &mut Live,
-    sender: &mut Client,
-    inbox: &mut Inbox,
-) {
-    is_named(rt, live, None);
-    submit(rt, sender, R, alloc);
-    submit(rt, sender, R, alloc);
-    go_on(live);
-    go_on(live);
-    are_named(rt, live, sender, inbox);
-    same(rt, live.turned_away(), 1);
-    note_is(rt, sender, Outcome::Acknowledged);
-    note_is(rt, sender, Outcome::Aborted(2));
-    holds(rt, receive(rt, inbox));
-    submit(rt, sender, R, alloc);
-    go_on(live);
-    are_named(rt, live, sender, inbox);
-}
+// Of two messages the second finds no place. The client and the port are named once each.
+const NAMED: [Step; 17] = [
+    Step::Named(None),
+    Step::Submit(R),
+    Step::Submit(R),
+    Step::GoOn,
+    Step::GoOn,
+    Step::Named(Some(News::Client(0))),
+    Step::Named(Some(News::Port(PORT))),
+    Step::Named(None),
+    Step::TurnedAway(1),
+    Step::Note(1, Outcome::Acknowledged),
+    Step::Note(2, Outcome::Aborted(2)),
+    Step::Receive(true),
+    Step::Submit(R),
+    Step::GoOn,
+    Step::Named(Some(News::Client(0))),
+    Step::Named(Some(News::Port(PORT))),
+    Step::Named(None),
+];
 
 fn news_of(rt: &impl Abort, alloc: Global, live: &mut Live) {
     let mut inbox = narrow_port(rt, live);
     let mut sender = client(rt, live, A);
-    send_two(rt, alloc, live, &mut sender, &mut inbox);
+    play(rt, alloc, live, &mut inbox, &mut sender, &[(1, &NAMED)]);
     drop(inbox);
     drop(sender);
 }

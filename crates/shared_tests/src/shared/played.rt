@@ -1,12 +1,16 @@
 //! A segment with a port of 35 and a client of 21, step by step. The steps of a test are a table, which one function plays: a table needs no
-//! proof, and each call in a test does.
+//! proof, and each call in a test does. A step that finds no memory is made again, and has changed nothing: so a test passes whichever one
+//! allocation is refused.
 use super::steps::*;
+use bus_frame::{CanId, Frame};
 use pgn_ids::Address;
+use segment_law::Counts;
 use segment_shared::{
-    Accepted, Client, Inbox, Live, NotDetached, NotMade, PortId, Refusal, WorkerCall,
-    client_agrees, inbox_agrees,
+    Accepted, Client, Inbox, Live, News, Piece, PortId, Refusal, StoredCalls, WorkerCall,
+    client_agrees, inbox_agrees, pieces_begin, rejoin,
 };
-use std::alloc::Global;
+use std::alloc::{AllocError, Global};
+use std::mem;
 use std::process::Abort;
 use tp_wire::Outcome;
 
@@ -16,220 +20,457 @@ pub(super) const PORT: PortId = PortId {
     number: 1,
 };
 
-/// What is done with the segment, the port or the client, or is seen of them. Messages are nine bytes of the client.
+/// What is done with the segment, the port, the client or the pieces that were cut off, or is seen of them. Messages are nine bytes of the
+/// client. What is made is refused if there is a cause.
 pub(super) enum Step {
-    /// A message is submitted.
+    /// A message is submitted, and has the next ticket.
     Submit(Address),
-    /// Messages to 35 are submitted, with the tickets from 1 up to this one.
-    SubmitUpTo(u64),
-    /// A message is handed back, since the ring of submissions is full.
-    Full,
+    /// So many bytes are handed back for this cause.
+    Unsent(Address, u8, Refusal),
     /// The front submission is accepted so.
     Accept(Accepted),
-    /// Messages are submitted and accepted, with the numbers from 1 up to this one.
-    SendUpTo(Address, u64),
-    /// A message to 35 is submitted, and has this outcome once the workers have made their turns.
-    Exchange(Outcome),
-    /// So many messages to 35 are submitted, and acknowledged.
-    ExchangeMany(u64),
-    /// A call is made, and has so many events.
-    Make(WorkerCall, usize),
-    /// A call is refused.
-    Refuse(WorkerCall, Refusal),
-    /// A turn of the worker of this station.
-    Turn(Address),
     /// The client reads a note of this ticket and this outcome.
     Note(u64, Outcome),
-    /// Whether a delivery is received.
-    Receive(bool),
-    /// The port is closed by its inbox, which hands out so many deliveries, or isn't.
-    Close(Result<usize, Refusal>),
-    /// The port is closed without its inbox.
-    ClosePort,
-    /// There is no port of this number to be closed.
-    NoPort(u64),
-    /// Whether the port was closed without its inbox.
-    Shut(bool),
-    /// No port is opened at a station.
-    Unopened(Address, Refusal),
-    /// No client is attached at a station.
-    Unattached(Address, Refusal),
-    /// A client of 21 is attached, and leaves at once.
-    Attach,
+    /// The client reads a note of this outcome on what it submitted last.
+    Noted(Outcome),
     /// The client is detached, once.
     Detach,
     /// What the client and the inbox keep is what the stored calls say.
     Agree,
+    /// The submissions of the client: how many aren't kept any more, and how many are.
+    Submitted(u64, usize),
+    /// The same of the notes that it read.
+    WasRead(u64, usize),
+    /// Whether what was submitted begins by what the pieces say.
+    Begin(bool),
+    /// Whether a delivery is received.
+    Receive(bool),
+    /// The port is closed by its inbox, which hands out so many deliveries, or isn't.
+    Close(Result<usize, Refusal>),
+    /// Whether the port was closed without its inbox.
+    Shut(bool),
+    /// The deliveries of the inbox: how many aren't kept any more, and how many are.
+    Received(u64, usize),
+    /// A piece of this number is cut off, and put behind the others.
+    Cut(u64),
+    /// The last piece has so many calls.
+    Holds(usize),
+    /// Whose message a call of the last piece sends: its place there, and the client.
+    By(usize, Option<u64>),
+    /// The pieces join, and are so many calls with the stored ones; or they are handed back.
+    Join(Result<usize, Refusal>),
+    /// The pieces are in the other order.
+    Reverse,
+    /// The last piece is let go.
+    LetGo,
+    /// A call is made, and has so many events.
+    Make(Work, usize),
+    /// A call is refused.
+    Refuse(Work, Refusal),
+    /// A client of a station is attached, and leaves at once.
+    Attach(Address, Option<Refusal>),
+    /// A port of a station is opened, and its inbox leaves at once.
+    Open(Address, Option<Refusal>),
+    /// The port of 35 with this number is closed without its inbox.
+    ClosePort(u64, Option<Refusal>),
+    /// Another client of this station has its first message to that one accepted, and leaves.
+    SendFrom(Address, Address),
+    /// A turn of the worker of this station.
+    Turn(Address),
+    /// The same, in which it makes so many calls.
+    TurnOf(Address, u64),
+    /// Turns of the workers of 21, 35 and the bus, until nothing is left to do.
+    GoOn,
+    /// Who has news.
+    Named(Option<News>),
     /// How many messages were given, and how many frames were taken again.
     Counts(u64, u64),
+    /// How many calls are stored.
+    Calls(usize),
+    /// How often calls were cut off.
+    Cuts(u64),
+    /// How many messages were turned away.
+    TurnedAway(u64),
+    /// The station whose frame goes first onto the bus.
+    Lowest(Address),
+    /// The identifier of the first frame on the bus.
+    First(u32),
+    /// The deliveries that the segment gave to the port: how many aren't kept any more, and how many are.
+    Given(u64, usize),
+    /// The same of the notes of the first client.
+    Notes(u64, usize),
 }
 
-fn submits_up_to(rt: &impl Abort, alloc: Global, sender: &mut Client, last: u64) {
-    for ticket in 1..=last {
-        same(rt, submit(rt, sender, R, alloc), ticket);
-    }
+/// A call of a worker: `WorkerCall` may hold a frame, which a constant table can't.
+pub(super) enum Work {
+    Pump(Address, Address),
+    Put(Address),
+    Take(Address),
+    TakeAgain(Address),
+    /// A station missed so many frames.
+    Miss(Address, u64),
+    Tick(u64),
+    Fire(Address),
+    /// The message from one station to another with this number is cancelled.
+    Cancel(Address, Address, u64),
+    /// The port is paused.
+    Pause,
+    /// The port is resumed.
+    Resume,
+    /// A node that is no station puts a frame with this identifier on the bus.
+    Inject(u32, [u8; 8]),
 }
 
-fn is_full(rt: &impl Abort, alloc: Global, sender: &mut Client) -> bool {
-    match submitted(rt, sender, R, FECA, bytes(rt, alloc, 1, 9)) {
-        Ok(_) => false,
-        Err(refused) => refused.refusal == Some(Refusal::RingFull) && refused.bytes.len() == 9,
-    }
-}
+/// So many rounds of these steps.
+pub(super) type Rounds = (u64, &'static [Step]);
 
-fn sends_up_to(
+fn tries(
     rt: &impl Abort,
     alloc: Global,
     live: &mut Live,
+    inbox: &mut Inbox,
     sender: &mut Client,
-    to: Address,
-    last: u64,
-) {
-    for number in 1..=last {
-        submit(rt, sender, to, alloc);
-        same(rt, accept(rt, live, sender), Accepted::Sent(number));
+    pieces: &mut Vec<Piece>,
+    step: &Step,
+) -> Option<bool> {
+    match step {
+        Step::Submit(to) => submits(rt, alloc, sender, *to),
+        Step::Unsent(to, many, cause) => is_unsent(rt, alloc, sender, *to, *many, *cause),
+        Step::Accept(accepted) => accepts(live, sender, *accepted),
+        Step::Note(ticket, outcome) => notes(sender, *ticket, *outcome),
+        Step::Noted(outcome) => notes(sender, last_ticket(sender), *outcome),
+        Step::Detach => Some(detaches(live, sender)),
+        Step::Agree => Some(client_agrees(live, sender) && inbox_agrees(live, inbox)),
+        Step::Submitted(gone, kept) => {
+            Some(sender.submitted_gone() == *gone && sender.submitted().len() == *kept)
+        }
+        Step::WasRead(gone, kept) => {
+            Some(sender.read_gone() == *gone && sender.read().len() == *kept)
+        }
+        Step::Begin(begins) => Some(pieces_begin(pieces.as_slice(), sender) == *begins),
+        other => tries_of_port(rt, alloc, live, inbox, pieces, other),
     }
 }
 
-fn notes(rt: &impl Abort, sender: &mut Client, ticket: u64, outcome: Outcome) -> bool {
-    match note(rt, sender) {
-        Some(note) => note.ticket == ticket && note.outcome == outcome,
+fn is_unsent(
+    rt: &impl Abort,
+    alloc: Global,
+    sender: &mut Client,
+    to: Address,
+    many: u8,
+    cause: Refusal,
+) -> Option<bool> {
+    match answered(rt, alloc, sender, to, many) {
+        Some(answer) => Some(answer == Err(cause)),
+        None => None,
+    }
+}
+
+// The same of a step of the port or the pieces, or of the segment.
+fn tries_of_port(
+    rt: &impl Abort,
+    alloc: Global,
+    live: &mut Live,
+    inbox: &mut Inbox,
+    pieces: &mut Vec<Piece>,
+    step: &Step,
+) -> Option<bool> {
+    match step {
+        Step::Receive(comes) => receives(inbox, *comes),
+        Step::Close(expected) => closes(live, inbox, *expected),
+        Step::Shut(is_shut) => Some(inbox.is_shut() == *is_shut),
+        Step::Received(gone, kept) => {
+            Some(inbox.gone() == *gone && inbox.received().len() == *kept)
+        }
+        Step::Cut(number) => cuts(rt, live, pieces, *number),
+        Step::Holds(calls) => Some(holds_calls(pieces.as_slice(), *calls)),
+        Step::By(at, client) => Some(is_by(pieces.as_slice(), *at, *client)),
+        Step::Join(expected) => joins(alloc, live, pieces, *expected),
+        Step::Reverse => {
+            pieces.reverse();
+            Some(true)
+        }
+        Step::LetGo => Some(pieces.pop().is_some()),
+        other => tries_of_segment(rt, alloc, live, other),
+    }
+}
+
+fn cuts(rt: &impl Abort, live: &mut Live, pieces: &mut Vec<Piece>, number: u64) -> Option<bool> {
+    if pieces.reserve(1).is_err() {
+        return None;
+    }
+    let Ok(piece) = live.cut() else {
+        return None;
+    };
+    let cut = piece.number;
+    got(rt, pieces.push(piece));
+    Some(cut == number)
+}
+
+fn holds_calls(pieces: &[Piece], calls: usize) -> bool {
+    match pieces.last() {
+        Some(piece) => piece.calls.len() == calls,
         None => false,
     }
 }
 
-fn exchanges(
-    rt: &impl Abort,
-    alloc: Global,
-    live: &mut Live,
-    sender: &mut Client,
-    outcome: Outcome,
-) -> bool {
-    let ticket = submit(rt, sender, R, alloc);
-    go_on(live);
-    notes(rt, sender, ticket, outcome)
-}
-
-fn exchanges_many(rt: &impl Abort, alloc: Global, live: &mut Live, sender: &mut Client, many: u64) {
-    for _ in 0..many {
-        holds(
-            rt,
-            exchanges(rt, alloc, live, sender, Outcome::Acknowledged),
-        );
+fn is_by(pieces: &[Piece], at: usize, client: Option<u64>) -> bool {
+    match pieces.last() {
+        Some(piece) => at < piece.calls.len() && owner(&piece.calls, at) == Some(client),
+        None => false,
     }
 }
 
-fn detaches(live: &mut Live, sender: &Client) -> bool {
-    let first = live.detach(sender.id());
-    let again = live.detach(sender.id());
-    let other = live.detach(16);
-    first == Ok(()) && again == Err(NotDetached::Gone) && other == Err(NotDetached::NoSuchClient)
+// The client whose message a call sends that is kept whole.
+fn owner(calls: &StoredCalls, at: usize) -> Option<Option<u64>> {
+    if at >= calls.len() {
+        return None;
+    }
+    match calls.whole(at) {
+        Some(stored) => Some(stored.by),
+        None => None,
+    }
 }
 
-fn is_unopened(rt: &impl Abort, live: &mut Live, station: Address, cause: Refusal) -> bool {
-    live.open_port(station, feca(rt), 9).err() == Some(NotMade::Refused(cause))
+fn joins(
+    alloc: Global,
+    live: &Live,
+    pieces: &mut Vec<Piece>,
+    expected: Result<usize, Refusal>,
+) -> Option<bool> {
+    let count = pieces.len();
+    match rejoin(mem::replace(pieces, Vec::new(alloc)), live) {
+        Ok(calls) => Some(expected == Ok(calls.len())),
+        Err(refused) => {
+            *pieces = refused.pieces;
+            match refused.refusal {
+                Some(cause) => Some(expected == Err(cause) && pieces.len() == count),
+                None => None,
+            }
+        }
+    }
 }
 
-// Whether a step of the client does, or shows, what it says; of the others none.
+fn tries_of_segment(rt: &impl Abort, alloc: Global, live: &mut Live, step: &Step) -> Option<bool> {
+    match step {
+        Step::Make(call, events) => is_answer(live.apply(call_of(rt, call)), Ok(*events)),
+        Step::Refuse(call, cause) => is_answer(live.apply(call_of(rt, call)), Err(*cause)),
+        Step::Attach(station, cause) => makes(live.attach(*station), *cause),
+        Step::Open(station, cause) => makes(live.open_port(*station, feca(rt), 9), *cause),
+        Step::ClosePort(number, cause) => {
+            let port = PortId {
+                station: R,
+                number: *number,
+            };
+            makes(live.close_port(port), *cause)
+        }
+        Step::SendFrom(station, to) => Some(sends_from(rt, alloc, live, *station, *to)),
+        other => Some(turns(live, other)),
+    }
+}
+
+fn call_of(rt: &impl Abort, work: &Work) -> WorkerCall {
+    match work {
+        Work::Pump(station, to) => WorkerCall::Pump {
+            station: *station,
+            to: *to,
+        },
+        Work::Put(station) => WorkerCall::Transmit { station: *station },
+        Work::Take(station) => WorkerCall::Take { station: *station },
+        Work::TakeAgain(station) => WorkerCall::TakeAgain { station: *station },
+        Work::Miss(station, n) => WorkerCall::Overrun {
+            station: *station,
+            n: *n,
+        },
+        Work::Tick(n) => WorkerCall::Tick { n: *n },
+        Work::Fire(station) => WorkerCall::Fire { station: *station },
+        Work::Cancel(from, to, number) => WorkerCall::Cancel {
+            from: *from,
+            to: *to,
+            number: *number,
+        },
+        Work::Pause => WorkerCall::Pause { port: PORT },
+        Work::Resume => WorkerCall::Resume { port: PORT },
+        Work::Inject(id, bytes) => WorkerCall::Inject {
+            frame: Frame::full(got(rt, CanId::new(*id)), *bytes),
+        },
+    }
+}
+
+fn sends_from(
+    rt: &impl Abort,
+    alloc: Global,
+    live: &mut Live,
+    station: Address,
+    to: Address,
+) -> bool {
+    let mut other = client(rt, live, station);
+    let is_submitted = got(rt, submits(rt, alloc, &mut other, to).ok_or(AllocError));
+    let is_sent = got(
+        rt,
+        accepts(live, &other, Accepted::Sent(1)).ok_or(AllocError),
+    );
+    drop(other);
+    is_submitted && is_sent
+}
+
+// A turn finds no memory and leaves what it was to do to the next.
+fn turns(live: &mut Live, step: &Step) -> bool {
+    match step {
+        Step::Turn(station) => {
+            live.station_turn(*station);
+            true
+        }
+        Step::TurnOf(station, calls) => live.station_turn(*station).calls == *calls,
+        Step::GoOn => {
+            go_on(live);
+            true
+        }
+        Step::Named(news) => live.news() == *news,
+        other => shows(live, other),
+    }
+}
+
+fn shows(live: &Live, step: &Step) -> bool {
+    match step {
+        Step::Counts(given, repeated) => {
+            let counts = live.counts();
+            counts.given == *given && counts.repeated == *repeated
+        }
+        Step::Calls(count) => live.calls().len() == *count,
+        Step::Cuts(count) => live.cuts() == *count,
+        Step::TurnedAway(count) => live.turned_away() == *count,
+        Step::Lowest(station) => live.lowest() == Some(*station),
+        Step::First(identifier) => first_identifier(live) == Some(*identifier),
+        Step::Given(gone, kept) => {
+            live.given_gone(PORT) == Some(*gone) && len_of(live.given_to(PORT)) == Some(*kept)
+        }
+        Step::Notes(gone, kept) => {
+            live.notes_gone(0) == Some(*gone) && len_of(live.notes_of(0)) == Some(*kept)
+        }
+        _ => false,
+    }
+}
+
+fn first_identifier(live: &Live) -> Option<u32> {
+    match live.segment().frame(1) {
+        Some(frame) => Some(frame.id().raw()),
+        None => None,
+    }
+}
+
+fn len_of<T>(list: Option<&[T]>) -> Option<usize> {
+    match list {
+        Some(list) => Some(list.len()),
+        None => None,
+    }
+}
+
+// What the readers say of the segment and its ends, with what a cut let go.
+fn read(live: &Live, inbox: &Inbox, sender: &Client) -> ([u64; 9], Counts) {
+    let numbers = [
+        live.calls().len() as u64,
+        live.cuts(),
+        live.clients(),
+        live.segment().now(),
+        live.segment().bus_len(),
+        live.turned_away(),
+        last_ticket(sender),
+        sender
+            .read_gone()
+            .saturating_add(sender.read().len() as u64),
+        inbox.gone().saturating_add(inbox.received().len() as u64),
+    ];
+    (numbers, live.counts())
+}
+
+// Whether a step does, or shows, what it says. One that finds no memory changes nothing, and is made again.
 fn is_so(
     rt: &impl Abort,
     alloc: Global,
     live: &mut Live,
     inbox: &mut Inbox,
     sender: &mut Client,
+    pieces: &mut Vec<Piece>,
     step: &Step,
 ) -> bool {
-    match step {
-        Step::Submit(to) => submit(rt, sender, *to, alloc) > 0,
-        Step::SubmitUpTo(last) => {
-            submits_up_to(rt, alloc, sender, *last);
-            true
+    let before = read(live, inbox, sender);
+    if let Some(so) = tries(rt, alloc, live, inbox, sender, pieces, step) {
+        return so;
+    }
+    holds(rt, read(live, inbox, sender) == before);
+    tries(rt, alloc, live, inbox, sender, pieces, step) == Some(true)
+}
+
+/// Ends the test at the first step that isn't so, and prints its places in the tables. Pieces that are cut off are put behind these.
+pub(super) fn play_on(
+    rt: &impl Abort,
+    alloc: Global,
+    live: &mut Live,
+    inbox: &mut Inbox,
+    sender: &mut Client,
+    pieces: &mut Vec<Piece>,
+    tables: &[Rounds],
+) {
+    for (table, (times, steps)) in tables.iter().enumerate() {
+        for _ in 0..*times {
+            for (place, step) in steps.iter().enumerate() {
+                let so = is_so(rt, alloc, live, inbox, sender, pieces, step);
+                same(rt, (table, place, so), (table, place, true));
+            }
         }
-        Step::Full => is_full(rt, alloc, sender),
-        Step::Accept(accepted) => accept(rt, live, sender) == *accepted,
-        Step::SendUpTo(to, last) => {
-            sends_up_to(rt, alloc, live, sender, *to, *last);
-            true
-        }
-        Step::Exchange(outcome) => exchanges(rt, alloc, live, sender, *outcome),
-        Step::ExchangeMany(many) => {
-            exchanges_many(rt, alloc, live, sender, *many);
-            true
-        }
-        Step::Note(ticket, outcome) => notes(rt, sender, *ticket, *outcome),
-        Step::Detach => detaches(live, sender),
-        Step::Agree => client_agrees(live, sender) && inbox_agrees(live, inbox),
-        other => is_so_of_port(rt, live, inbox, other),
     }
 }
 
-// The same of a step of the port, or of the segment.
-fn is_so_of_port(rt: &impl Abort, live: &mut Live, inbox: &mut Inbox, step: &Step) -> bool {
-    match step {
-        Step::Receive(came) => receive(rt, inbox) == *came,
-        Step::Close(handed_out) => close(rt, live, inbox) == *handed_out,
-        Step::Shut(is_shut) => inbox.is_shut() == *is_shut,
-        Step::ClosePort => live.close_port(inbox.port()) == Ok(()),
-        Step::NoPort(number) => {
-            let port = PortId {
-                station: R,
-                number: *number,
-            };
-            live.close_port(port) == Err(NotMade::Refused(Refusal::NoSuchPort))
-        }
-        Step::Unopened(station, cause) => is_unopened(rt, live, *station, *cause),
-        Step::Unattached(station, cause) => {
-            live.attach(*station).err() == Some(NotMade::Refused(*cause))
-        }
-        Step::Attach => {
-            drop(client(rt, live, A));
-            true
-        }
-        other => is_so_of_segment(rt, live, other),
-    }
-}
-
-fn is_so_of_segment(rt: &impl Abort, live: &mut Live, step: &Step) -> bool {
-    match step {
-        Step::Make(call, events) => made(rt, live, *call) == *events,
-        Step::Refuse(call, cause) => refused(rt, live, *call) == Some(*cause),
-        Step::Turn(station) => {
-            live.station_turn(*station);
-            true
-        }
-        Step::Counts(given, repeated) => {
-            let counts = live.counts();
-            counts.given == *given && counts.repeated == *repeated
-        }
-        _ => false,
-    }
-}
-
-/// Ends the test at the first step that isn't so, and prints its place in the table.
 pub(super) fn play(
     rt: &impl Abort,
     alloc: Global,
     live: &mut Live,
     inbox: &mut Inbox,
     sender: &mut Client,
-    steps: &[Step],
+    tables: &[Rounds],
 ) {
-    for (place, step) in steps.iter().enumerate() {
-        let so = is_so(rt, alloc, live, inbox, sender, step);
-        same(rt, (place, so), (place, true));
-    }
+    let mut pieces = Vec::new(alloc);
+    play_on(rt, alloc, live, inbox, sender, &mut pieces, tables);
+    drop(pieces);
 }
 
-fn does_on(rt: &impl Abort, alloc: Global, live: &mut Live, steps: &[Step]) {
+fn with_ends(
+    rt: &impl Abort,
+    alloc: Global,
+    live: &mut Live,
+    pieces: &mut Vec<Piece>,
+    tables: &[Rounds],
+) {
     let (mut inbox, mut sender) = port_and_client(rt, live);
-    play(rt, alloc, live, &mut inbox, &mut sender, steps);
+    play_on(rt, alloc, live, &mut inbox, &mut sender, pieces, tables);
     drop(inbox);
     drop(sender);
 }
 
+/// A new port and a new client of the segment do all this.
+pub(super) fn does_on(rt: &impl Abort, alloc: Global, live: &mut Live, tables: &[Rounds]) {
+    let mut pieces = Vec::new(alloc);
+    with_ends(rt, alloc, live, &mut pieces, tables);
+    drop(pieces);
+}
+
 /// A new segment with the port and the client does all this.
-pub(super) fn does(rt: &impl Abort, alloc: Global, steps: &[Step]) {
+pub(super) fn does(rt: &impl Abort, alloc: Global, tables: &[Rounds]) {
+    does_apart(rt, alloc, &[tables]);
+}
+
+/// Several segments do this, one after another, with the pieces that were cut off those before.
+pub(super) fn does_apart(rt: &impl Abort, alloc: Global, segments: &[&[Rounds]]) {
+    let mut pieces = Vec::new(alloc);
+    for tables in segments {
+        does_with(rt, alloc, &mut pieces, tables);
+    }
+    drop(pieces);
+}
+
+fn does_with(rt: &impl Abort, alloc: Global, pieces: &mut Vec<Piece>, tables: &[Rounds]) {
     let mut live = three(rt, alloc);
-    does_on(rt, alloc, &mut live, steps);
+    with_ends(rt, alloc, &mut live, pieces, tables);
     drop(live);
 }

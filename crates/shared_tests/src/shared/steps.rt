@@ -1,13 +1,13 @@
-//! Single steps of tests: each ends the test if memory is refused, or if the answer isn't the expected one.
+//! What single calls of a test answer, without what they promise. Memory that is refused is no answer: the call is made again then.
 pub(super) use crate::calls::*;
 pub(super) use crate::checks::{got, holds, same};
 use pgn_ids::Address;
 use segment_shared::{
-    Accepted, Client, Closed, Inbox, Live, NotMade, Note, PortKept, Refusal, Reply, Report,
-    WorkerCall, finish,
+    Accepted, Client, Inbox, Live, NotDetached, NotMade, Note, Refusal, Reply, WorkerCall,
 };
-use std::alloc::{AllocError, Global};
+use std::alloc::Global;
 use std::process::Abort;
+use tp_wire::Outcome;
 
 pub(super) const A: Address = Address(0x21);
 
@@ -40,123 +40,6 @@ pub(super) fn port_and_client(rt: &impl Abort, live: &mut Live) -> (Inbox, Clien
     (inbox, sender)
 }
 
-// A client submits nine bytes.
-pub(super) fn submit(rt: &impl Abort, client: &mut Client, to: Address, alloc: Global) -> u64 {
-    got(rt, submitted(rt, client, to, FECA, bytes(rt, alloc, 1, 9)))
-}
-
-pub(super) fn accept(rt: &impl Abort, live: &mut Live, client: &Client) -> Accepted {
-    got(rt, live.accept(client.id()))
-}
-
-// A call is made; returns how many events it has.
-pub(super) fn made(rt: &impl Abort, live: &mut Live, call: WorkerCall) -> usize {
-    match got(rt, live.apply(call)) {
-        Reply::Done(told) => told.len(),
-        reply => panic!(rt; "{reply:?}"),
-    }
-}
-
-// Why a call is refused, if it is.
-pub(super) fn refused(rt: &impl Abort, live: &mut Live, call: WorkerCall) -> Option<Refusal> {
-    match got(rt, live.apply(call)) {
-        Reply::Refused(refusal) => Some(refusal),
-        _ => None,
-    }
-}
-
-pub(super) fn note(rt: &impl Abort, client: &mut Client) -> Option<Note> {
-    got(rt, client.try_outcome())
-}
-
-// Whether a delivery was there.
-pub(super) fn receive(rt: &impl Abort, inbox: &mut Inbox) -> bool {
-    got(rt, inbox.try_receive()).is_some()
-}
-
-// How many deliveries a closing hands out, or why it is refused.
-fn handed_out(rt: &impl Abort, closed: Result<Closed, NotMade>) -> Result<usize, Refusal> {
-    match closed {
-        Ok(closed) => Ok(closed.rest.len()),
-        Err(NotMade::Refused(refusal)) => Err(refusal),
-        Err(NotMade::OutOfMemory) => got(rt, Err(AllocError)),
-    }
-}
-
-// Closes a port; returns how many deliveries are handed out, or why it is refused.
-pub(super) fn close(rt: &impl Abort, live: &mut Live, inbox: &mut Inbox) -> Result<usize, Refusal> {
-    handed_out(rt, live.close_on(inbox))
-}
-
-// The result of a closing that a thread asked for, as `close` returns it.
-pub(super) fn closed(rt: &impl Abort, closed: Result<Closed, PortKept>) -> Result<usize, Refusal> {
-    match closed {
-        Ok(closed) => handed_out(rt, Ok(closed)),
-        Err(kept) => handed_out(rt, Err(kept.refused)),
-    }
-}
-
-// What a report says of clients and inboxes: how many there are, and how much is left of all of them together.
-#[derive(Drop)]
-pub(super) struct Left {
-    pub(super) clients: usize,
-    pub(super) submissions: usize,
-    pub(super) notes: usize,
-    pub(super) inboxes: usize,
-    pub(super) deliveries: usize,
-}
-
-fn left_by(report: &Report) -> Left {
-    let mut left = Left {
-        clients: report.clients.len(),
-        submissions: 0,
-        notes: 0,
-        inboxes: report.inboxes.len(),
-        deliveries: 0,
-    };
-    for client in &report.clients {
-        left.submissions = left.submissions.saturating_add(client.left.len());
-        left.notes = left.notes.saturating_add(client.unread.len());
-    }
-    for inbox in &report.inboxes {
-        left.deliveries = left.deliveries.saturating_add(inbox.rest.len());
-    }
-    left
-}
-
-fn is_left(rt: &impl Abort, left: &Left, expected: &Left) {
-    same(rt, left.clients, expected.clients);
-    same(rt, left.submissions, expected.submissions);
-    same(rt, left.notes, expected.notes);
-    same(rt, left.inboxes, expected.inboxes);
-    same(rt, left.deliveries, expected.deliveries);
-}
-
-fn report(rt: &impl Abort, live: &mut Live, clients: Vec<Client>, inboxes: Vec<Inbox>) -> Report {
-    match finish(live, clients, inboxes) {
-        Ok(report) => report,
-        Err(refused) => {
-            holds(rt, !refused.not_this_segment);
-            got(rt, Err(AllocError))
-        }
-    }
-}
-
-// So much is left of these clients and an inbox.
-pub(super) fn leaves(
-    rt: &impl Abort,
-    alloc: Global,
-    live: &mut Live,
-    clients: Vec<Client>,
-    inbox: Inbox,
-    expected: Left,
-) {
-    let inboxes = got(rt, vec![in alloc; inbox]);
-    let report = report(rt, live, clients, inboxes);
-    is_left(rt, &left_by(&report), &expected);
-    drop(report);
-}
-
 // Turns of the workers of stations 21 and 35 and of the bus, one after another.
 pub(super) fn go_on(live: &mut Live) {
     for _ in 0..MANY {
@@ -164,4 +47,98 @@ pub(super) fn go_on(live: &mut Live) {
         let _receiver = live.station_turn(R);
         let _bus = live.bus_turn();
     }
+}
+
+// The ticket of what a client submitted last: its place among all that it submitted.
+pub(super) fn last_ticket(sender: &Client) -> u64 {
+    sender
+        .submitted_gone()
+        .saturating_add(sender.submitted().len() as u64)
+}
+
+// What a submission of so many bytes is answered. Those of a refused one are handed back.
+pub(super) fn answered(
+    rt: &impl Abort,
+    alloc: Global,
+    sender: &mut Client,
+    to: Address,
+    many: u8,
+) -> Option<Result<u64, Refusal>> {
+    match sender.submit(to, FECA, bytes(rt, alloc, 1, many)) {
+        Ok(ticket) => Some(Ok(ticket)),
+        Err(refused) => {
+            holds(rt, refused.bytes.len() == many as usize);
+            match refused.refusal {
+                Some(cause) => Some(Err(cause)),
+                None => None,
+            }
+        }
+    }
+}
+
+// Whether nine bytes are submitted, with the ticket that follows the last one.
+pub(super) fn submits(
+    rt: &impl Abort,
+    alloc: Global,
+    sender: &mut Client,
+    to: Address,
+) -> Option<bool> {
+    let next = last_ticket(sender).saturating_add(1);
+    match answered(rt, alloc, sender, to, 9) {
+        Some(answer) => Some(answer == Ok(next)),
+        None => None,
+    }
+}
+
+pub(super) fn accepts(live: &mut Live, sender: &Client, expected: Accepted) -> Option<bool> {
+    match live.accept(sender.id()) {
+        Ok(accepted) => Some(accepted == expected),
+        Err(_) => None,
+    }
+}
+
+// Whether the next note has this ticket and this outcome.
+pub(super) fn notes(sender: &mut Client, ticket: u64, outcome: Outcome) -> Option<bool> {
+    match sender.try_outcome() {
+        Ok(Some(note)) => Some(note.ticket == ticket && note.outcome == outcome),
+        Ok(None) => Some(false),
+        Err(_) => None,
+    }
+}
+
+// Whether a delivery comes or doesn't, as it is to.
+pub(super) fn receives(inbox: &mut Inbox, comes: bool) -> Option<bool> {
+    match inbox.try_receive() {
+        Ok(delivery) => Some(delivery.is_some() == comes),
+        Err(_) => None,
+    }
+}
+
+// Whether something is made, or refused for the cause that there is.
+pub(super) fn makes<T: Drop>(made: Result<T, NotMade>, cause: Option<Refusal>) -> Option<bool> {
+    match made {
+        Ok(_) => Some(cause.is_none()),
+        Err(NotMade::Refused(refusal)) => Some(cause == Some(refusal)),
+        Err(NotMade::OutOfMemory) => None,
+    }
+}
+
+// Whether the closing of a port hands out so many deliveries, or is refused for this cause.
+pub(super) fn closes(
+    live: &mut Live,
+    inbox: &mut Inbox,
+    expected: Result<usize, Refusal>,
+) -> Option<bool> {
+    match live.close_on(inbox) {
+        Ok(closed) => Some(expected == Ok(closed.rest.len())),
+        Err(NotMade::Refused(refusal)) => Some(expected == Err(refusal)),
+        Err(NotMade::OutOfMemory) => None,
+    }
+}
+
+pub(super) fn detaches(live: &mut Live, sender: &Client) -> bool {
+    let first = live.detach(sender.id());
+    let again = live.detach(sender.id());
+    let other = live.detach(16);
+    first == Ok(()) && again == Err(NotDetached::Gone) && other == Err(NotDetached::NoSuchClient)
 }

@@ -1,4 +1,5 @@
 //! A worker for each of three stations and one for the bus, each a thread of its own, and two clients and an inbox.
+use super::left::*;
 use super::steps::*;
 use pgn_ids::Address;
 use segment_shared::{Client, Gate, Inbox, Live, SharedSegment, Tally, bus_worker, station_worker};
@@ -9,9 +10,10 @@ use std::sync::atomic::{AtomicU64, Ordering};
 use std::thread;
 use std::thread::{Scope, Threads};
 
-/// How many workers there are, and the most turns of each.
-const WORKERS: u64 = 4;
+/// The stations of the workers, and none for the bus's.
+const WORKERS: [Option<Address>; 4] = [Some(A), Some(B), Some(R), None];
 
+/// The most turns of each worker.
 const TURNS: u64 = 20_000;
 
 /// How many turns a worker may be ahead of the others, on an average.
@@ -72,7 +74,10 @@ impl Pace {
 
 impl Gate for Pace {
     fn pass(&self, _worker: u8, turn: u64) {
-        let needed = turn.saturating_sub(AHEAD).max(1).saturating_mul(WORKERS);
+        let needed = turn
+            .saturating_sub(AHEAD)
+            .max(1)
+            .saturating_mul(WORKERS.len() as u64);
         self.passed.fetch_add(1, Ordering::SeqCst);
         if !self.comes_to(needed) && turn == 1 {
             self.missed.fetch_add(1, Ordering::SeqCst);
@@ -80,75 +85,70 @@ impl Gate for Pace {
     }
 }
 
-fn work_station(rt: &impl Wait, shared: &SharedSegment, pace: &Pace, station: Address) {
-    pace.end(station_worker(rt, shared, station, pace, TURNS));
+fn work(rt: &impl Wait, shared: &SharedSegment, pace: &Pace, station: Option<Address>) {
+    let tally = match station {
+        Some(station) => station_worker(rt, shared, station, pace, TURNS),
+        None => bus_worker(rt, shared, pace, TURNS),
+    };
+    pace.end(tally);
 }
 
-fn work_bus(rt: &impl Wait, shared: &SharedSegment, pace: &Pace) {
-    pace.end(bus_worker(rt, shared, pace, TURNS));
-}
+/// How many notes of the first and of the second client are to arrive, and how many deliveries.
+const ALL: [u64; 3] = [1, 1, 2];
 
-// Two clients with a message each, and the inbox of the port that both are for.
-#[derive(Drop)]
-struct Ends {
-    first: Client,
-    second: Client,
-    inbox: Inbox,
-}
-
-// Whether a note arrived before the workers ended.
-fn is_noted(rt: &(impl Abort + Wait), pace: &Pace, client: &mut Client) -> bool {
+// How many of them arrived before the workers ended.
+fn arrived(
+    rt: &(impl Abort + Wait),
+    pace: &Pace,
+    first: &mut Client,
+    second: &mut Client,
+    inbox: &mut Inbox,
+) -> [u64; 3] {
+    let mut counts = [0u64; 3];
     for _ in 0..u64::MAX {
         let last = pace.is_open();
-        if got(rt, client.outcome(rt, LOOKS)).is_some() {
-            return true;
+        let came = [
+            got(rt, first.outcome(rt, LOOKS)).is_some(),
+            got(rt, second.outcome(rt, LOOKS)).is_some(),
+            got(rt, inbox.receive(rt, LOOKS)).is_some(),
+        ];
+        for k in 0..3 {
+            counts[k] = counts[k].saturating_add(came[k] as u64);
         }
-        if last {
-            return false;
-        }
-    }
-    false
-}
-
-// Whether a delivery arrived before the workers ended.
-fn is_given(rt: &(impl Abort + Wait), pace: &Pace, inbox: &mut Inbox) -> bool {
-    for _ in 0..u64::MAX {
-        let last = pace.is_open();
-        if got(rt, inbox.receive(rt, LOOKS)).is_some() {
-            return true;
-        }
-        if last {
-            return false;
+        if counts == ALL || last && came == [false; 3] {
+            return counts;
         }
     }
-    false
+    counts
 }
 
 // Both clients submit, and each of the notes and deliveries arrives.
-fn talk(rt: &(impl Abort + Wait), alloc: Global, pace: &Pace, ends: &mut Ends) {
-    let one = bytes(rt, alloc, 1, 9);
-    let other = bytes(rt, alloc, 0x11, 10);
-    got(rt, submitted(rt, &mut ends.first, R, FECA, one));
-    got(rt, submitted(rt, &mut ends.second, R, FECA, other));
-    holds(rt, is_noted(rt, pace, &mut ends.first));
-    holds(rt, is_noted(rt, pace, &mut ends.second));
-    holds(rt, is_given(rt, pace, &mut ends.inbox));
-    holds(rt, is_given(rt, pace, &mut ends.inbox));
+fn talk(
+    rt: &(impl Abort + Wait),
+    alloc: Global,
+    pace: &Pace,
+    first: &mut Client,
+    second: &mut Client,
+    inbox: &mut Inbox,
+) {
+    got(rt, submitted(rt, first, R, FECA, bytes(rt, alloc, 1, 9)));
+    got(
+        rt,
+        submitted(rt, second, R, FECA, bytes(rt, alloc, 0x11, 10)),
+    );
+    same(rt, arrived(rt, pace, first, second, inbox), ALL);
 }
 
-const STATIONS: [Address; 3] = [A, B, R];
-
-// Starts a thread for each station and one for the bus.
+// Starts a thread for each worker.
 fn start_workers<'s, E, T: Threads + Wait + Sync>(
     scope: &Scope<'s, E>,
     rt: &'s T,
     shared: &'s SharedSegment,
     pace: &'s Pace,
 ) -> Result<(), AllocError> {
-    for station in &STATIONS {
-        scope.spawn(move || work_station(rt, shared, pace, *station))?;
+    for station in &WORKERS {
+        scope.spawn(move || work(rt, shared, pace, *station))?;
     }
-    scope.spawn(move || work_bus(rt, shared, pace))?;
     Ok(())
 }
 
@@ -158,85 +158,69 @@ fn talk_by_threads<T: Threads + Wait + Abort + Sync>(
     alloc: Global,
     shared: &SharedSegment,
     pace: &Pace,
-    ends: &mut Ends,
+    first: &mut Client,
+    second: &mut Client,
+    inbox: &mut Inbox,
 ) {
     thread::scope(thread::scope_env(), rt, move |scope| {
         got(rt, start_workers(scope, rt, shared, pace));
-        talk(rt, alloc, pace, ends);
+        talk(rt, alloc, pace, first, second, inbox);
         shared.stop(rt);
         pace.open();
     })
 }
 
-// Two clients and an inbox for what they submit.
-fn ends_of(rt: &impl Abort, live: &mut Live) -> Ends {
-    let inbox = port(rt, live);
-    let first = client(rt, live, A);
-    let second = client(rt, live, B);
-    Ends {
-        first,
-        second,
-        inbox,
-    }
-}
-
-// Each worker was at its first turn before any continued.
-fn has_crossed(rt: &impl Abort, pace: &Pace) {
-    same(rt, pace.missed.load(Ordering::SeqCst), 0);
-}
-
-// Beside the opening of the port, which none of them made, the stored calls are those that the workers say they made.
+// Each worker was at its first turn before any continued. Beside the opening of the port, which none of them made, the stored calls are those that
+// the workers say they made.
 fn add_up(rt: &impl Abort, live: &Live, pace: &Pace) {
+    holds(rt, live.is_stopped());
+    same(rt, pace.missed.load(Ordering::SeqCst), 0);
     let applied = pace.calls.load(Ordering::SeqCst);
     same(rt, live.calls().len() as u64, applied.saturating_add(1));
 }
 
-fn leave_nothing(rt: &impl Abort, alloc: Global, live: &mut Live, ends: Ends) {
-    let Ends {
-        first,
-        second,
-        inbox,
-    } = ends;
-    let clients = got(rt, vec![in alloc; first, second]);
-    let nothing = Left {
-        clients: 2,
-        submissions: 0,
-        notes: 0,
-        inboxes: 1,
-        deliveries: 0,
-    };
-    leaves(rt, alloc, live, clients, inbox, nothing);
-}
+const NOTHING: Left = Left {
+    clients: 2,
+    submissions: 0,
+    notes: 0,
+    inboxes: 1,
+    deliveries: 0,
+};
 
-// The two clients talk by threads, and nothing is left. Returns the segment, and how its workers ended.
-fn talk_through<T: Threads + Wait + Abort + Sync>(rt: &T, alloc: Global) -> (Live, Pace) {
-    let mut live = three(rt, alloc);
-    let mut ends = ends_of(rt, &mut live);
+// The two clients talk by threads, and nothing is left.
+fn talk_through<T: Threads + Wait + Abort + Sync>(
+    rt: &T,
+    alloc: Global,
+    pace: &Pace,
+    live: Live,
+    first: Client,
+    second: Client,
+    inbox: Inbox,
+) {
+    let (mut first, mut second, mut inbox) = (first, second, inbox);
     let shared = SharedSegment::share(live);
-    let pace = Pace::new();
-    talk_by_threads(rt, alloc, &shared, &pace, &mut ends);
+    talk_by_threads(
+        rt,
+        alloc,
+        &shared,
+        pace,
+        &mut first,
+        &mut second,
+        &mut inbox,
+    );
     let mut live = shared.into_live();
-    leave_nothing(rt, alloc, &mut live, ends);
-    (live, pace)
+    add_up(rt, &live, pace);
+    let clients = got(rt, vec![in alloc; first, second]);
+    leaves(rt, alloc, &mut live, clients, inbox, &NOTHING);
+    drop(live);
 }
 
 #[test]
 fn messages_of_two_threads_come_to_a_third(rt: HostRuntime) {
-    let (live, _pace) = talk_through(&rt, rt.alloc());
-    holds(&rt, live.is_stopped());
-    drop(live);
-}
-
-#[test]
-fn gate_crossed(rt: HostRuntime) {
-    let (live, pace) = talk_through(&rt, rt.alloc());
-    has_crossed(&rt, &pace);
-    drop(live);
-}
-
-#[test]
-fn tallies_add_up(rt: HostRuntime) {
-    let (live, pace) = talk_through(&rt, rt.alloc());
-    add_up(&rt, &live, &pace);
-    drop(live);
+    let mut live = three(&rt, rt.alloc());
+    let (inbox, first) = port_and_client(&rt, &mut live);
+    let second = client(&rt, &mut live, B);
+    let pace = Pace::new();
+    talk_through(&rt, rt.alloc(), &pace, live, first, second, inbox);
+    drop(pace);
 }

@@ -1,28 +1,28 @@
 //! Calls of a worker that no turn makes: a port is paused and resumed, a frame is taken again, and frames were missed.
 use super::played::*;
 use super::steps::*;
-use segment_shared::{Accepted, Refusal, WorkerCall};
+use segment_shared::{Accepted, Refusal};
 use tp_wire::Outcome;
 
-const PUMP: WorkerCall = WorkerCall::Pump { station: A, to: R };
+const PUMP: Work = Work::Pump(A, R);
 
-const PUT_A: WorkerCall = WorkerCall::Transmit { station: A };
+const PUT_A: Work = Work::Put(A);
 
-const PUT_R: WorkerCall = WorkerCall::Transmit { station: R };
+const PUT_R: Work = Work::Put(R);
 
-const TAKE_A: WorkerCall = WorkerCall::Take { station: A };
+const TAKE_A: Work = Work::Take(A);
 
-const TAKE_R: WorkerCall = WorkerCall::Take { station: R };
+const TAKE_R: Work = Work::Take(R);
 
-const AGAIN_R: WorkerCall = WorkerCall::TakeAgain { station: R };
+const AGAIN_R: Work = Work::TakeAgain(R);
 
-const PAUSE: WorkerCall = WorkerCall::Pause { port: PORT };
+const PAUSE: Work = Work::Pause;
 
-const RESUME: WorkerCall = WorkerCall::Resume { port: PORT };
+const RESUME: Work = Work::Resume;
 
-const MISS_4: WorkerCall = WorkerCall::Overrun { station: R, n: 4 };
+const MISS_4: Work = Work::Miss(R, 4);
 
-const MISS_3: WorkerCall = WorkerCall::Overrun { station: R, n: 3 };
+const MISS_3: Work = Work::Miss(R, 3);
 
 // The request to send is answered by a hold, which 21 takes. After 500 ticks the grant follows. 35 takes both packets behind the hold and the
 // grant, and 21 the end acknowledgement behind the packets.
@@ -41,8 +41,8 @@ const HELD: [Step; 32] = [
     Step::Counts(0, 0),
     Step::Make(RESUME, 0),
     Step::Refuse(RESUME, Refusal::PortNotPaused),
-    Step::Make(WorkerCall::Tick { n: 500 }, 0),
-    Step::Make(WorkerCall::Fire { station: R }, 0),
+    Step::Make(Work::Tick(500), 0),
+    Step::Make(Work::Fire(R), 0),
     Step::Make(PUT_R, 0),
     Step::Make(TAKE_A, 0),
     Step::Make(PUMP, 0),
@@ -63,7 +63,7 @@ const HELD: [Step; 32] = [
 
 #[test]
 fn a_paused_port_is_given_nothing_until_it_goes_on(rt: HostRuntime) {
-    does(&rt, rt.alloc(), &HELD);
+    does(&rt, rt.alloc(), &[(1, &HELD)]);
 }
 
 // The request is taken twice, and answered by two grants.
@@ -83,7 +83,7 @@ const TAKEN_TWICE: [Step; 11] = [
 
 #[test]
 fn a_frame_is_taken_once_more(rt: HostRuntime) {
-    does(&rt, rt.alloc(), &TAKEN_TWICE);
+    does(&rt, rt.alloc(), &[(1, &TAKEN_TWICE)]);
 }
 
 // 35 misses its own grant and both packets. The message is over: 21 waits for its acknowledgement in vain.
@@ -103,13 +103,13 @@ const MISSED: [Step; 19] = [
     Step::Make(MISS_3, 0),
     Step::Refuse(TAKE_R, Refusal::NothingToTake),
     Step::Refuse(AGAIN_R, Refusal::NothingToRepeat),
-    Step::Make(WorkerCall::Tick { n: 1250 }, 0),
-    Step::Make(WorkerCall::Fire { station: A }, 1),
+    Step::Make(Work::Tick(1250), 0),
+    Step::Make(Work::Fire(A), 1),
     Step::Note(1, Outcome::TimedOut),
     Step::Counts(0, 0),
 ];
 
 #[test]
 fn a_message_of_which_frames_were_missed_is_not_given(rt: HostRuntime) {
-    does(&rt, rt.alloc(), &MISSED);
+    does(&rt, rt.alloc(), &[(1, &MISSED)]);
 }
