@@ -59,26 +59,22 @@ fn again(rt: &impl Abort, alloc: Global, delivery: &Delivery) -> Delivery
 
 /// What is done with a client of 21 and its seat, or is seen of them. Messages are nine bytes to 35.
 enum Step {
-    /// A message is submitted, and has this ticket.
-    Submit(u64),
-    /// The same with the tickets from 1 up to this one.
-    SubmitUpTo(u64),
+    /// A message is submitted, and has the ticket that follows the last one.
+    Submit,
     /// So many bytes for this destination and PGN are handed back for this cause.
     Refuse(Address, u32, u8, Refusal),
     /// The front message is taken.
     Take,
     /// No message waits.
     Nothing,
-    /// A note of this ticket is made, or the ring of notes has no place.
-    Note(u64, bool),
-    /// The same with the tickets from 1 up to this one.
-    NoteUpTo(u64),
+    /// A note of the ticket that follows that of the last one is made, or the ring of notes has no place.
+    Note(bool),
     /// The client reads the note of this ticket, or none.
     Read(Option<u64>),
     /// None comes while the client waits.
     Wait,
     /// The seat was closed, and then a note is made.
-    NoteAfterEnd(u64),
+    NoteAfterEnd,
     Close,
     Cut,
     /// The submissions of the client: how many aren't kept any more, and how many are.
@@ -91,16 +87,18 @@ enum Step {
     Taken(u64),
 }
 
-// What is submitted is answered so: a ticket, or a cause, with the bytes.
-fn submits(rt: &impl Abort, alloc: Global, client: &mut Client, ticket: u64) -> bool {
-    let answer = submitted(rt, client, RECEIVER, FECA, nine(rt, alloc));
-    got(rt, answer) == ticket
+/// So many rounds of these steps.
+type Rounds = (u64, &'static [Step]);
+
+// The number that follows those of so many that aren't kept any more, and so many that are.
+fn next(gone: u64, kept: usize) -> u64 {
+    gone.saturating_add(kept as u64).saturating_add(1)
 }
 
-fn submits_all(rt: &impl Abort, alloc: Global, client: &mut Client, last: u64) {
-    for ticket in 1..=last {
-        holds(rt, submits(rt, alloc, client, ticket));
-    }
+fn submits(rt: &impl Abort, alloc: Global, client: &mut Client) -> bool {
+    let ticket = next(client.submitted_gone(), client.submitted().len());
+    let answer = submitted(rt, client, RECEIVER, FECA, nine(rt, alloc));
+    got(rt, answer) == ticket
 }
 
 fn is_refused(
@@ -138,7 +136,8 @@ fn take_one(seat: &mut Seat) -> Option<Submission> {
 }
 
 // Makes a note, if a submission waits and the ring of notes has a place.
-fn note_one(rt: &impl Abort, seat: &mut Seat, ticket: u64) -> bool {
+fn note_one(rt: &impl Abort, seat: &mut Seat) -> bool {
+    let ticket = next(seat.notes_gone(), seat.notes().len());
     match seat.offer(0) {
         Offer::Ready => {
             got(rt, seat.reserve(1));
@@ -162,19 +161,13 @@ fn is_submitted(submission: &Submission) -> bool {
         && submission.bytes.as_slice() == NINE.as_slice()
 }
 
-fn notes_all(rt: &impl Abort, seat: &mut Seat, last: u64) {
-    for ticket in 1..=last {
-        holds(rt, note_one(rt, seat, ticket));
-    }
-}
-
 // Closes a seat with room for a note and a submission waiting, and then makes the note.
-fn note_after_the_end(rt: &impl Abort, seat: &mut Seat, ticket: u64) -> bool {
+fn note_after_the_end(rt: &impl Abort, seat: &mut Seat) -> bool {
     match seat.offer(0) {
         Offer::Ready => {
             got(rt, seat.reserve(1));
             seat.close();
-            seat.note(note_of(ticket));
+            seat.note(note_of(1));
             true
         }
         Offer::Empty | Offer::Owed => false,
@@ -204,24 +197,16 @@ fn is_so(
     step: &Step,
 ) -> bool {
     match step {
-        Step::Submit(ticket) => submits(rt, alloc, client, *ticket),
-        Step::SubmitUpTo(last) => {
-            submits_all(rt, alloc, client, *last);
-            true
-        }
+        Step::Submit => submits(rt, alloc, client),
         Step::Refuse(to, pgn, many, cause) => {
             is_refused(rt, client, *to, *pgn, bytes(rt, alloc, 1, *many), *cause)
         }
         Step::Take => takes_nine(seat),
         Step::Nothing => seat.offer(0) == Offer::Empty,
-        Step::Note(ticket, has_place) => note_one(rt, seat, *ticket) == *has_place,
-        Step::NoteUpTo(last) => {
-            notes_all(rt, seat, *last);
-            true
-        }
+        Step::Note(has_place) => note_one(rt, seat) == *has_place,
         Step::Read(ticket) => reads(rt, client, ticket),
         Step::Wait => got(rt, client.outcome(rt, 2)).is_none(),
-        Step::NoteAfterEnd(ticket) => note_after_the_end(rt, seat, *ticket),
+        Step::NoteAfterEnd => note_after_the_end(rt, seat),
         Step::Close => closes(seat),
         Step::Cut => {
             seat.cut();
@@ -236,17 +221,21 @@ fn is_so(
     }
 }
 
-// Ends the test at the first step that isn't so, and prints its place in the table.
+// Ends the test at the first step that isn't so, and prints its places in the tables.
 fn play(
     rt: &(impl Abort + Wait),
     alloc: Global,
     seat: &mut Seat,
     client: &mut Client,
-    steps: &[Step],
+    tables: &[Rounds],
 ) {
-    for (place, step) in steps.iter().enumerate() {
-        let so = is_so(rt, alloc, seat, client, step);
-        same(rt, (place, so), (place, true));
+    for (table, (times, steps)) in tables.iter().enumerate() {
+        for _ in 0..*times {
+            for (place, step) in steps.iter().enumerate() {
+                let so = is_so(rt, alloc, seat, client, step);
+                same(rt, (table, place, so), (table, place, true));
+            }
+        }
     }
 }
 
@@ -256,18 +245,18 @@ fn are_of_the_sender(rt: &impl Abort, seat: &Seat, client: &Client) {
 }
 
 // A new client and its seat do all this.
-fn does(rt: &(impl Abort + Wait), alloc: Global, steps: &[Step]) {
+fn does(rt: &(impl Abort + Wait), alloc: Global, tables: &[Rounds]) {
     let (mut seat, mut client) = seated(rt, alloc, 3);
     are_of_the_sender(rt, &seat, &client);
-    play(rt, alloc, &mut seat, &mut client, steps);
+    play(rt, alloc, &mut seat, &mut client, tables);
     drop(seat);
     drop(client);
 }
 
 const TAKEN_AND_READ: [Step; 11] = [
     Step::Nothing,
-    Step::Submit(1),
-    Step::Note(1, true),
+    Step::Submit,
+    Step::Note(true),
     Step::Take,
     Step::Read(Some(1)),
     Step::Wait,
@@ -280,13 +269,13 @@ const TAKEN_AND_READ: [Step; 11] = [
 
 #[test]
 fn a_submission_is_taken_and_its_note_is_read(rt: HostRuntime) {
-    does(&rt, rt.alloc(), &TAKEN_AND_READ);
+    does(&rt, rt.alloc(), &[(1, &TAKEN_AND_READ)]);
 }
 
 // The seat knows of the submission once it has looked.
 fn rings_once(rt: &impl Abort, alloc: Global, bell: &Bell, seat: &mut Seat, client: &mut Client) {
     let before = bell.count();
-    holds(rt, submits(rt, alloc, client, 1));
+    holds(rt, submits(rt, alloc, client));
     same(rt, (before, bell.count()), (0, 1));
     let seen = seat.sees();
     holds(rt, !seen && seat.offer(0) == Offer::Ready);
@@ -305,15 +294,15 @@ fn a_submission_rings_the_bell(rt: HostRuntime) {
 }
 
 const NOTED_AFTER_THE_END: [Step; 4] = [
-    Step::Submit(1),
-    Step::NoteAfterEnd(1),
+    Step::Submit,
+    Step::NoteAfterEnd,
     Step::Read(None),
     Step::Notes(0, 1),
 ];
 
 #[test]
 fn a_note_after_the_end_goes_into_no_ring(rt: HostRuntime) {
-    does(&rt, rt.alloc(), &NOTED_AFTER_THE_END);
+    does(&rt, rt.alloc(), &[(1, &NOTED_AFTER_THE_END)]);
 }
 
 const NOT_TO_BE_SENT: [Step; 5] = [
@@ -326,22 +315,28 @@ const NOT_TO_BE_SENT: [Step; 5] = [
 
 #[test]
 fn what_is_not_to_be_sent_comes_back(rt: HostRuntime) {
-    does(&rt, rt.alloc(), &NOT_TO_BE_SENT);
+    does(&rt, rt.alloc(), &[(1, &NOT_TO_BE_SENT)]);
 }
 
-const FULL_OF_SUBMISSIONS: [Step; 4] = [
-    Step::SubmitUpTo(64),
-    Step::Refuse(RECEIVER, FECA, 9, Refusal::RingFull),
-    Step::Take,
-    Step::Submit(65),
+const FULL_OF_SUBMISSIONS: [Rounds; 2] = [
+    (64, &[Step::Submit]),
+    (
+        1,
+        &[
+            Step::Refuse(RECEIVER, FECA, 9, Refusal::RingFull),
+            Step::Take,
+            Step::Submit,
+        ],
+    ),
 ];
 
-const FULL_OF_NOTES: [Step; 5] = [
-    Step::Submit(1),
-    Step::NoteUpTo(64),
-    Step::Note(65, false),
-    Step::Read(Some(1)),
-    Step::Note(65, true),
+const FULL_OF_NOTES: [Rounds; 3] = [
+    (1, &[Step::Submit]),
+    (64, &[Step::Note(true)]),
+    (
+        1,
+        &[Step::Note(false), Step::Read(Some(1)), Step::Note(true)],
+    ),
 ];
 
 #[test]
@@ -353,17 +348,17 @@ fn a_full_ring_has_a_place_again(rt: HostRuntime) {
 // One of two submissions is taken, and one of two notes is read, before the cut. The client looks up what it keeps at its next calls, and
 // it counts on from all that it submitted. A client that is gone reads nothing more, and its seat keeps its notes.
 const CUT: [Step; 17] = [
-    Step::Submit(1),
-    Step::Submit(2),
-    Step::Note(1, true),
-    Step::Note(2, true),
+    Step::Submit,
+    Step::Submit,
+    Step::Note(true),
+    Step::Note(true),
     Step::Take,
     Step::Read(Some(1)),
     Step::Cut,
     Step::Notes(1, 1),
     Step::Submitted(0, 2),
     Step::WasRead(0, 1),
-    Step::Submit(3),
+    Step::Submit,
     Step::Read(Some(2)),
     Step::Submitted(1, 2),
     Step::WasRead(1, 1),
@@ -374,7 +369,7 @@ const CUT: [Step; 17] = [
 
 #[test]
 fn a_cut_keeps_the_unread_notes_and_the_submissions_in_the_ring(rt: HostRuntime) {
-    does(&rt, rt.alloc(), &CUT);
+    does(&rt, rt.alloc(), &[(1, &CUT)]);
 }
 
 const PORT: PortId = PortId {
@@ -386,8 +381,6 @@ const PORT: PortId = PortId {
 enum Passage {
     /// A delivery is given, or the ring has no place or no reader.
     Give(bool),
-    /// So many deliveries are given.
-    GiveMany(usize),
     /// The front delivery is received, or there is none.
     Receive(bool),
     Cut,
@@ -400,6 +393,9 @@ enum Passage {
     Received(u64, usize),
 }
 
+/// So many rounds of these steps.
+type Deliveries = (u64, &'static [Passage]);
+
 // Gives one delivery if the ring has a place, and returns whether it had.
 fn give_one(rt: &impl Abort, alloc: Global, door: &mut Door) -> bool {
     let pushed = delivery(rt, alloc);
@@ -409,12 +405,6 @@ fn give_one(rt: &impl Abort, alloc: Global, door: &mut Door) -> bool {
     }
     door.give(pushed, kept);
     true
-}
-
-fn gives_many(rt: &impl Abort, alloc: Global, door: &mut Door, many: usize) {
-    for _ in 0..many {
-        holds(rt, give_one(rt, alloc, door));
-    }
 }
 
 // Whether the front delivery is nine bytes of 21.
@@ -456,10 +446,6 @@ fn passes(
 ) -> bool {
     match step {
         Passage::Give(has_place) => give_one(rt, alloc, door) == *has_place,
-        Passage::GiveMany(many) => {
-            gives_many(rt, alloc, door, *many);
-            true
-        }
         Passage::Receive(true) => receives_nine(rt, inbox),
         Passage::Receive(false) => got(rt, inbox.try_receive()).is_none(),
         Passage::Cut => {
@@ -480,31 +466,40 @@ fn play_passages(
     alloc: Global,
     door: &mut Door,
     inbox: &mut Inbox,
-    steps: &[Passage],
+    tables: &[Deliveries],
 ) {
     same(rt, (door.port(), inbox.port()), (PORT, PORT));
-    for (place, step) in steps.iter().enumerate() {
-        let so = passes(rt, alloc, door, inbox, step);
-        same(rt, (place, so), (place, true));
+    for (table, (times, steps)) in tables.iter().enumerate() {
+        for _ in 0..*times {
+            for (place, step) in steps.iter().enumerate() {
+                let so = passes(rt, alloc, door, inbox, step);
+                same(rt, (table, place, so), (table, place, true));
+            }
+        }
     }
 }
 
 // A new door and its inbox do all this.
-fn passes_all(rt: &(impl Abort + Wait), alloc: Global, steps: &[Passage]) {
+fn passes_all(rt: &(impl Abort + Wait), alloc: Global, tables: &[Deliveries]) {
     let (mut door, mut inbox) = got(rt, Doorway::new(alloc)).open(PORT);
-    play_passages(rt, alloc, &mut door, &mut inbox, steps);
+    play_passages(rt, alloc, &mut door, &mut inbox, tables);
     drop(door);
     drop(inbox);
 }
 
-const FULL: [Passage; 7] = [
-    Passage::Receive(false),
-    Passage::GiveMany(64),
-    Passage::Give(false),
-    Passage::Receive(true),
-    Passage::Give(true),
-    Passage::Given(0, 65),
-    Passage::Received(0, 1),
+const FULL: [Deliveries; 3] = [
+    (1, &[Passage::Receive(false)]),
+    (64, &[Passage::Give(true)]),
+    (
+        1,
+        &[
+            Passage::Give(false),
+            Passage::Receive(true),
+            Passage::Give(true),
+            Passage::Given(0, 65),
+            Passage::Received(0, 1),
+        ],
+    ),
 ];
 
 #[test]
@@ -523,23 +518,28 @@ const CLOSED: [Passage; 6] = [
 
 #[test]
 fn a_closed_inbox_gives_nothing(rt: HostRuntime) {
-    passes_all(&rt, rt.alloc(), &CLOSED);
+    passes_all(&rt, rt.alloc(), &[(1, &CLOSED)]);
 }
 
 // Two of three deliveries are unread at the first cut, and none at the second.
-const CUT_TWICE: [Passage; 12] = [
-    Passage::GiveMany(3),
-    Passage::Receive(true),
-    Passage::Cut,
-    Passage::Given(1, 2),
-    Passage::Received(0, 1),
-    Passage::Receive(true),
-    Passage::Received(1, 1),
-    Passage::Receive(true),
-    Passage::Cut,
-    Passage::Given(3, 0),
-    Passage::Receive(false),
-    Passage::Received(3, 0),
+const CUT_TWICE: [Deliveries; 2] = [
+    (3, &[Passage::Give(true)]),
+    (
+        1,
+        &[
+            Passage::Receive(true),
+            Passage::Cut,
+            Passage::Given(1, 2),
+            Passage::Received(0, 1),
+            Passage::Receive(true),
+            Passage::Received(1, 1),
+            Passage::Receive(true),
+            Passage::Cut,
+            Passage::Given(3, 0),
+            Passage::Receive(false),
+            Passage::Received(3, 0),
+        ],
+    ),
 ];
 
 #[test]
