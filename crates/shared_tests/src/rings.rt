@@ -122,19 +122,6 @@ fn seated(rt: &impl Abort, alloc: Global, id: u64) -> (Seat, Client) {
     got(rt, Seat::new(alloc, id, SENDER, bell))
 }
 
-// Takes the front submission, if there is one.
-fn take_one(seat: &mut Seat) -> Option<Submission> {
-    match seat.offer(0) {
-        Offer::Ready => {
-            if seat.taken() > 1000 {
-                return None;
-            }
-            Some(seat.take())
-        }
-        Offer::Empty | Offer::Owed => None,
-    }
-}
-
 // Makes a note, if a submission waits and the ring of notes has a place.
 fn note_one(rt: &impl Abort, seat: &mut Seat) -> bool {
     let ticket = next(seat.notes_gone(), seat.notes().len());
@@ -148,10 +135,11 @@ fn note_one(rt: &impl Abort, seat: &mut Seat) -> bool {
     }
 }
 
+// Whether the front submission is nine bytes to 35.
 fn takes_nine(seat: &mut Seat) -> bool {
-    match take_one(seat) {
-        Some(submission) => is_submitted(&submission),
-        None => false,
+    match seat.offer(0) {
+        Offer::Ready => seat.taken() < 1000 && is_submitted(&seat.take()),
+        Offer::Empty | Offer::Owed => false,
     }
 }
 
@@ -229,6 +217,8 @@ fn play(
     client: &mut Client,
     tables: &[Rounds],
 ) {
+    same(rt, (client.id(), seat.id()), (3, 3));
+    same(rt, (client.station(), seat.station()), (SENDER, SENDER));
     for (table, (times, steps)) in tables.iter().enumerate() {
         for _ in 0..*times {
             for (place, step) in steps.iter().enumerate() {
@@ -239,15 +229,9 @@ fn play(
     }
 }
 
-fn are_of_the_sender(rt: &impl Abort, seat: &Seat, client: &Client) {
-    same(rt, (client.id(), seat.id()), (3, 3));
-    same(rt, (client.station(), seat.station()), (SENDER, SENDER));
-}
-
 // A new client and its seat do all this.
 fn does(rt: &(impl Abort + Wait), alloc: Global, tables: &[Rounds]) {
     let (mut seat, mut client) = seated(rt, alloc, 3);
-    are_of_the_sender(rt, &seat, &client);
     play(rt, alloc, &mut seat, &mut client, tables);
     drop(seat);
     drop(client);

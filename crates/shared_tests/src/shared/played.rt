@@ -6,8 +6,8 @@ use bus_frame::{CanId, Frame};
 use pgn_ids::Address;
 use segment_law::Counts;
 use segment_shared::{
-    Accepted, Client, Inbox, Live, News, Piece, PortId, Refusal, StoredCalls, WorkerCall,
-    client_agrees, inbox_agrees, pieces_begin, rejoin,
+    Accepted, Client, Inbox, Live, News, Piece, PortId, Refusal, WorkerCall, client_agrees,
+    inbox_agrees, pieces_begin, rejoin,
 };
 use std::alloc::{AllocError, Global};
 use std::mem;
@@ -134,8 +134,11 @@ fn tries(
     step: &Step,
 ) -> Option<bool> {
     match step {
-        Step::Submit(to) => submits(rt, alloc, sender, *to),
-        Step::Unsent(to, many, cause) => is_unsent(rt, alloc, sender, *to, *many, *cause),
+        Step::Submit(to) => {
+            let next = last_ticket(sender).saturating_add(1);
+            answers(rt, alloc, sender, *to, 9, Ok(next))
+        }
+        Step::Unsent(to, many, cause) => answers(rt, alloc, sender, *to, *many, Err(*cause)),
         Step::Accept(accepted) => accepts(live, sender, *accepted),
         Step::Note(ticket, outcome) => notes(sender, *ticket, *outcome),
         Step::Noted(outcome) => notes(sender, last_ticket(sender), *outcome),
@@ -149,20 +152,6 @@ fn tries(
         }
         Step::Begin(begins) => Some(pieces_begin(pieces.as_slice(), sender) == *begins),
         other => tries_of_port(rt, alloc, live, inbox, pieces, other),
-    }
-}
-
-fn is_unsent(
-    rt: &impl Abort,
-    alloc: Global,
-    sender: &mut Client,
-    to: Address,
-    many: u8,
-    cause: Refusal,
-) -> Option<bool> {
-    match answered(rt, alloc, sender, to, many) {
-        Some(answer) => Some(answer == Err(cause)),
-        None => None,
     }
 }
 
@@ -214,21 +203,17 @@ fn holds_calls(pieces: &[Piece], calls: usize) -> bool {
     }
 }
 
+// Whether a call of the last piece that is kept whole sends a message of this client.
 fn is_by(pieces: &[Piece], at: usize, client: Option<u64>) -> bool {
-    match pieces.last() {
-        Some(piece) => at < piece.calls.len() && owner(&piece.calls, at) == Some(client),
+    let Some(piece) = pieces.last() else {
+        return false;
+    };
+    if at >= piece.calls.len() {
+        return false;
+    }
+    match piece.calls.whole(at) {
+        Some(stored) => stored.by == client,
         None => false,
-    }
-}
-
-// The client whose message a call sends that is kept whole.
-fn owner(calls: &StoredCalls, at: usize) -> Option<Option<u64>> {
-    if at >= calls.len() {
-        return None;
-    }
-    match calls.whole(at) {
-        Some(stored) => Some(stored.by),
-        None => None,
     }
 }
 
@@ -305,7 +290,10 @@ fn sends_from(
     to: Address,
 ) -> bool {
     let mut other = client(rt, live, station);
-    let is_submitted = got(rt, submits(rt, alloc, &mut other, to).ok_or(AllocError));
+    let is_submitted = got(
+        rt,
+        answers(rt, alloc, &mut other, to, 9, Ok(1)).ok_or(AllocError),
+    );
     let is_sent = got(
         rt,
         accepts(live, &other, Accepted::Sent(1)).ok_or(AllocError),

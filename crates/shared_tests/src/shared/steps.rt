@@ -49,44 +49,31 @@ pub(super) fn go_on(live: &mut Live) {
     }
 }
 
-// The ticket of what a client submitted last: its place among all that it submitted.
+// The ticket of what a client submitted last, which is its place among all that it submitted.
 pub(super) fn last_ticket(sender: &Client) -> u64 {
     sender
         .submitted_gone()
         .saturating_add(sender.submitted().len() as u64)
 }
 
-// What a submission of so many bytes is answered. Those of a refused one are handed back.
-pub(super) fn answered(
+// Whether a submission of so many bytes has this ticket, or is refused for this cause. Those of a refused one are handed back.
+pub(super) fn answers(
     rt: &impl Abort,
     alloc: Global,
     sender: &mut Client,
     to: Address,
     many: u8,
-) -> Option<Result<u64, Refusal>> {
+    expected: Result<u64, Refusal>,
+) -> Option<bool> {
     match sender.submit(to, FECA, bytes(rt, alloc, 1, many)) {
-        Ok(ticket) => Some(Ok(ticket)),
+        Ok(ticket) => Some(expected == Ok(ticket)),
         Err(refused) => {
             holds(rt, refused.bytes.len() == many as usize);
             match refused.refusal {
-                Some(cause) => Some(Err(cause)),
+                Some(cause) => Some(expected == Err(cause)),
                 None => None,
             }
         }
-    }
-}
-
-// Whether nine bytes are submitted, with the ticket that follows the last one.
-pub(super) fn submits(
-    rt: &impl Abort,
-    alloc: Global,
-    sender: &mut Client,
-    to: Address,
-) -> Option<bool> {
-    let next = last_ticket(sender).saturating_add(1);
-    match answered(rt, alloc, sender, to, 9) {
-        Some(answer) => Some(answer == Ok(next)),
-        None => None,
     }
 }
 
