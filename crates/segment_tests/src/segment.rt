@@ -5,7 +5,7 @@ mod memory;
 mod missed;
 mod next;
 mod pairs;
+mod played;
 mod refusals;
-mod replies;
 mod segments;
 mod texts;

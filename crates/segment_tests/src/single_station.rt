@@ -2,4 +2,5 @@
 mod calls;
 mod exchanges;
 mod missed;
+mod played;
 mod refusals;

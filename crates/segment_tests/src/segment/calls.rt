@@ -1,49 +1,80 @@
 //! Calls on a segment of stations 21 and 35, whose result alone a test looks at: their contracts are not carried
 //! through it.
-use crate::checks::{got, same};
-use crate::segment::replies::{is_opened, is_sent};
-pub(crate) use crate::stations::{A, B, PORT, pgn};
+use crate::checks::got;
+pub(super) use crate::stations::{A, B, PORT, pgn};
 use bus_frame::{CanId, Frame};
 use pgn_ids::Address;
 use segment_core::*;
 use std::alloc::{AllocError, Global};
 use std::process::Abort;
 
-pub(crate) const PUMP: Call = Call::Pump { station: A, to: B };
+/// A frame by its identifier and its bytes.
+pub(super) type Shown = (u32, [u8; 8]);
 
-pub(crate) const TRANSMIT_A: Call = Call::Transmit { station: A };
+/// A call without bytes, as tables have it.
+pub(super) enum PlainCall {
+    /// 21 queues the next frames to this destination.
+    Pump(Address),
+    Transmit(Address),
+    Take(Address),
+    /// A station takes again what it took last.
+    Again(Address),
+    /// 35 misses the next frame.
+    Miss,
+    Tick(u64),
+    Fire(Address),
+    Inject(Shown),
+    /// Port 35.1 is closed.
+    Close,
+    /// Port 35.1 is resumed.
+    Resume,
+}
 
-pub(crate) const TRANSMIT_B: Call = Call::Transmit { station: B };
+pub(super) fn call_of(rt: &impl Abort, call: &PlainCall) -> Call {
+    match call {
+        PlainCall::Pump(to) => Call::Pump {
+            station: A,
+            to: *to,
+        },
+        PlainCall::Transmit(station) => Call::Transmit { station: *station },
+        PlainCall::Take(station) => Call::Take {
+            station: *station,
+            room: true,
+        },
+        PlainCall::Again(station) => Call::TakeAgain {
+            station: *station,
+            room: true,
+        },
+        PlainCall::Miss => Call::Overrun { station: B, n: 1 },
+        PlainCall::Tick(n) => Call::Tick { n: *n },
+        PlainCall::Fire(station) => Call::Fire { station: *station },
+        PlainCall::Inject(shown) => Call::Inject {
+            frame: frame(rt, shown.0, &shown.1),
+        },
+        PlainCall::Close => Call::Close { port: PORT },
+        PlainCall::Resume => Call::Resume { port: PORT },
+    }
+}
 
-pub(crate) const TAKE_A: Call = Call::Take {
-    station: A,
-    room: true,
-};
-
-pub(crate) const TAKE_B: Call = Call::Take {
-    station: B,
-    room: true,
-};
-
-pub(crate) fn frame(rt: &impl Abort, id: u32, bytes: &[u8]) -> Frame {
+pub(super) fn frame(rt: &impl Abort, id: u32, bytes: &[u8]) -> Frame {
     got(rt, Frame::new(got(rt, CanId::new(id)), bytes))
 }
 
-pub(crate) fn tried(segment: &mut Segment, call: Call) -> Result<Reply, AllocError> {
+pub(super) fn tried(segment: &mut Segment, call: Call) -> Result<Reply, AllocError> {
     segment.apply(call)
 }
 
-// `tried`, for a test that ends if a call finds no memory.
-pub(crate) fn apply(rt: &impl Abort, segment: &mut Segment, call: Call) -> Reply {
+/// `tried`, for a test that ends if a call finds no memory.
+pub(super) fn apply(rt: &impl Abort, segment: &mut Segment, call: Call) -> Reply {
     got(rt, tried(segment, call))
 }
 
-pub(crate) fn drive(segment: &mut Segment, from: Address, to: Address, turns: u64) -> Driven {
+pub(super) fn drive(segment: &mut Segment, from: Address, to: Address, turns: u64) -> Driven {
     segment.drive(from, to, turns)
 }
 
-// `drive`, for a test that ends if a drive finds no memory: such a drive is an error, not a shorter one.
-pub(crate) fn driven(
+/// `drive`, for a test that ends if a drive finds no memory: such a drive is an error, not a shorter one.
+pub(super) fn driven(
     rt: &impl Abort,
     segment: &mut Segment,
     from: Address,
@@ -57,39 +88,17 @@ pub(crate) fn driven(
     driven
 }
 
-// A drive of 21 puts so many frames, unless memory is refused.
-pub(crate) fn puts_frames(rt: &impl Abort, segment: &mut Segment, to: Address, count: u64) {
-    same(rt, driven(rt, segment, A, to, count).turns, count);
-}
-
-pub(crate) fn run(segment: &mut Segment, calls: Vec<Call>) -> Ran {
+pub(super) fn run(segment: &mut Segment, calls: Vec<Call>) -> Ran {
     segment.run(calls)
 }
 
-// `run`, for a test that ends if a call of the list finds no memory.
-pub(crate) fn ran(rt: &impl Abort, segment: &mut Segment, calls: Vec<Call>) -> Ran {
-    let ran = run(segment, calls);
-    if ran.end == RunEnd::OutOfMemory {
-        panic!(rt; "error: out of memory");
-    }
-    ran
-}
-
-pub(crate) fn counts(segment: &Segment) -> Counts {
-    segment.counts()
-}
-
-pub(crate) fn queue_len(segment: &Segment, station: Address) -> usize {
+pub(super) fn queue_len(segment: &Segment, station: Address) -> usize {
     segment.queue_len(station)
 }
 
-pub(crate) fn is_idle(segment: &Segment) -> bool {
-    segment.is_idle()
-}
-
-// A segment of the two stations. It is asked for again if memory is refused, and so are the bytes below, for tests that
-// continue then.
-pub(crate) fn segment(rt: &impl Abort, alloc: Global) -> Segment {
+/// A segment of the two stations. It is asked for again if memory is refused, and so are the bytes below, for tests that
+/// continue then.
+pub(super) fn segment(rt: &impl Abort, alloc: Global) -> Segment {
     match Segment::new(alloc, &[B, A]) {
         Ok(segment) => segment,
         Err(_) => got(rt, Segment::new(alloc, &[B, A])),
@@ -97,7 +106,7 @@ pub(crate) fn segment(rt: &impl Abort, alloc: Global) -> Segment {
 }
 
 // Bytes 1, 2, 3 and so on, each modulo 256.
-pub(crate) fn filled(rt: &impl Abort, alloc: Global, len: u32) -> Vec<u8> {
+fn filled(rt: &impl Abort, alloc: Global, len: u32) -> Vec<u8> {
     match places(alloc, len) {
         Ok(bytes) => bytes,
         Err(_) => got(rt, places(alloc, len)),
@@ -114,35 +123,21 @@ fn places(alloc: Global, len: u32) -> Result<Vec<u8>, AllocError> {
     Ok(bytes)
 }
 
-// Port 35.1 on FECA, for up to 4,000 bytes.
-pub(crate) fn opening(rt: &impl Abort) -> Call {
+/// A port of 35 on FECA, for messages of at most so many bytes.
+pub(super) fn opening(rt: &impl Abort, max_len: u32) -> Call {
     Call::Open {
         station: B,
         pgn: pgn(rt),
-        max_len: 4000,
+        max_len,
     }
 }
 
-// A message of so many bytes from 21, as `filled` makes them.
-pub(crate) fn sending(rt: &impl Abort, alloc: Global, to: Address, len: u32) -> Call {
+/// A message of so many bytes from 21, as `filled` makes them.
+pub(super) fn sending(rt: &impl Abort, alloc: Global, to: Address, len: u32) -> Call {
     Call::Send {
         from: A,
         to,
         pgn: pgn(rt),
         bytes: Bytes::new(filled(rt, alloc, len)),
     }
-}
-
-// Port 35.1 is open, and a copy of the message is sent.
-pub(crate) fn open_and_send(
-    rt: &impl Abort,
-    alloc: Global,
-    segment: &mut Segment,
-    to: Address,
-    len: u32,
-) {
-    is_opened(rt, apply(rt, segment, opening(rt)), PORT);
-    let send = sending(rt, alloc, to, len);
-    let copy = got(rt, send.copy(alloc));
-    is_sent(rt, apply(rt, segment, copy), 1);
 }

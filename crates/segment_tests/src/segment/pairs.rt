@@ -1,8 +1,7 @@
 //! Two segments that get the same calls. A call that finds no memory must leave every reader unchanged and is made again: whichever one
 //! allocation is refused, one segment meets that refusal, the other meets none, and both answer alike.
-use crate::checks::{got, holds, same};
-use crate::segment::calls::*;
-use crate::segment::replies::is_done;
+use super::calls::*;
+use crate::checks::{got, holds};
 use bus_frame::Frame;
 use pgn_ids::{Address, Pgn};
 use segment_core::*;
@@ -11,7 +10,7 @@ use std::process::Abort;
 use tp_wire::Outcome;
 
 // What the readers say of a station.
-#[derive(Clone, Copy, Debug, PartialEq)]
+#[derive(Clone, Copy, PartialEq)]
 struct StationReaders {
     queue_len: usize,
     waiting: u64,
@@ -22,7 +21,7 @@ struct StationReaders {
 }
 
 // What the readers say of a segment.
-#[derive(Clone, Copy, Debug, PartialEq)]
+#[derive(Clone, Copy, PartialEq)]
 struct Readers {
     now: u64,
     bus_len: u64,
@@ -35,7 +34,7 @@ struct Readers {
 
 fn of_station(segment: &Segment, station: Address) -> StationReaders {
     StationReaders {
-        queue_len: queue_len(segment, station),
+        queue_len: segment.queue_len(station),
         waiting: segment.waiting(station),
         front: segment.front(station),
         next_pump: segment.next_pump(station),
@@ -50,8 +49,8 @@ fn read(segment: &Segment) -> Readers {
         now: segment.now(),
         bus_len,
         newest: segment.frame(bus_len),
-        counts: counts(segment),
-        is_idle: is_idle(segment),
+        counts: segment.counts(),
+        is_idle: segment.is_idle(),
         a: of_station(segment, A),
         b: of_station(segment, B),
     }
@@ -129,7 +128,7 @@ fn made(rt: &impl Abort, alloc: Global, segment: &mut Segment, call: &Call) -> R
     match tried(segment, copied(rt, alloc, call)) {
         Ok(reply) => reply,
         Err(_) => {
-            same(rt, read(segment), before);
+            holds(rt, read(segment) == before);
             apply(rt, segment, copied(rt, alloc, call))
         }
     }
@@ -147,11 +146,6 @@ pub(crate) fn both(rt: &impl Abort, alloc: Global, pair: &mut Pair, call: Call) 
     let reply = made(rt, alloc, &mut pair.one, &call);
     let other = made(rt, alloc, &mut pair.other, &call);
     holds(rt, is_same_reply(&reply, &other));
-    same(rt, read(&pair.one), read(&pair.other));
+    holds(rt, read(&pair.one) == read(&pair.other));
     reply
-}
-
-// Both are done.
-pub(crate) fn done(rt: &impl Abort, alloc: Global, pair: &mut Pair, call: Call) {
-    let _events = is_done(rt, both(rt, alloc, pair, call));
 }

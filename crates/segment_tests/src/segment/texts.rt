@@ -1,6 +1,7 @@
 //! Each line with its exact text. A test ends if memory is refused.
+use super::calls::*;
+use super::played::{Step, play};
 use crate::checks::{got, same};
-use crate::segment::calls::*;
 use bus_frame::Frame;
 use message_events::Bytes;
 use pgn_ids::Address;
@@ -119,14 +120,16 @@ fn prints_drives(rt: &impl Abort, out: &mut Vec<u8>, segment: &mut Segment) {
     prints_drive(rt, out, segment, A, 4);
     prints_drive(rt, out, segment, A, 9);
     prints_drive(rt, out, segment, Address(0x99), 1);
-    got(rt, print_counts(out, counts(segment)));
+    got(rt, print_counts(out, segment.counts()));
 }
+
+const SENT: [Step; 2] = [Step::Open(4000), Step::Send(B, 9, 1)];
 
 #[test]
 fn drives_and_counts_have_their_lines(rt: HostRuntime) {
     let mut out = Vec::new(rt.alloc());
     let mut segment = segment(&rt, rt.alloc());
-    open_and_send(&rt, rt.alloc(), &mut segment, B, 9);
+    play(&rt, rt.alloc(), &mut segment, &SENT);
     prints_drives(&rt, &mut out, &mut segment);
     same(&rt, out.as_slice(), DRIVES.as_bytes());
 }

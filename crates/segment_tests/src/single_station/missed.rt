@@ -1,26 +1,22 @@
 //! Frames that were lost between the bus and a node.
-use crate::checks::same;
-use crate::single_station::calls::*;
-use one_station::*;
+use super::calls::{A, B, NodeCall, Shown};
+use super::played::{Step, does};
 use pgn_ids::Address;
-use std::process::Abort;
 use tp_wire::Outcome;
 
 // 21 announces twenty bytes to all (SAE J1939-21, TP.CM_BAM).
 const BAM: Shown = (0x1CEC_FF21, [0x20, 20, 0, 3, 0xFF, 0xCA, 0xFE, 0]);
 
-// The packets of its first message, and of its second.
-const FIRST: [Shown; 3] = [
-    (0x1CEB_FF21, [1, 1, 1, 1, 1, 1, 1, 1]),
-    (0x1CEB_FF21, [2, 1, 1, 1, 1, 1, 1, 1]),
-    (0x1CEB_FF21, [3, 1, 1, 1, 1, 1, 1, 0xFF]),
-];
+// The first two packets of its first message, and all of its second.
+const FIRST_OF_ONE: Shown = (0x1CEB_FF21, [1, 1, 1, 1, 1, 1, 1, 1]);
 
-const SECOND: [Shown; 3] = [
-    (0x1CEB_FF21, [1, 2, 2, 2, 2, 2, 2, 2]),
-    (0x1CEB_FF21, [2, 2, 2, 2, 2, 2, 2, 2]),
-    (0x1CEB_FF21, [3, 2, 2, 2, 2, 2, 2, 0xFF]),
-];
+const SECOND_OF_ONE: Shown = (0x1CEB_FF21, [2, 1, 1, 1, 1, 1, 1, 1]);
+
+const FIRST_OF_TWO: Shown = (0x1CEB_FF21, [1, 2, 2, 2, 2, 2, 2, 2]);
+
+const SECOND_OF_TWO: Shown = (0x1CEB_FF21, [2, 2, 2, 2, 2, 2, 2, 2]);
+
+const THIRD_OF_TWO: Shown = (0x1CEB_FF21, [3, 2, 2, 2, 2, 2, 2, 0xFF]);
 
 // Two packets of the first message, and the rest of the second: nobody sent it.
 const MIXED: [u8; 20] = [1, 1, 1, 1, 1, 1, 1, 1, 1, 1, 1, 1, 1, 1, 2, 2, 2, 2, 2, 2];
@@ -28,84 +24,59 @@ const MIXED: [u8; 20] = [1, 1, 1, 1, 1, 1, 1, 1, 1, 1, 1, 1, 1, 1, 2, 2, 2, 2, 2
 const TWO: [u8; 20] = [2; 20];
 
 // Three frames of two messages of 21 are lost: the last packet of the first, the second announcement, and the first packet of the
-// second.
-fn comes_before(rt: &impl Abort, node: &mut Node) {
-    same(rt, open(rt, node, 20), PORT);
-    takes(rt, node, BAM);
-    takes(rt, node, FIRST[0]);
-    takes(rt, node, FIRST[1]);
-}
-
-fn comes_after(rt: &impl Abort, node: &mut Node) {
-    takes(rt, node, SECOND[1]);
-    takes(rt, node, SECOND[2]);
-}
-
-// The next event is this message of twenty bytes.
-fn gives_twenty(rt: &impl Abort, node: &mut Node, expected: &[u8]) {
-    let mut room = [0; 20];
-    same(rt, node.take_bytes(&mut room), Ok(20));
-    same(rt, room.as_slice(), expected);
-}
-
-// The second message, sent again, is received whole.
-fn comes_whole(rt: &impl Abort, node: &mut Node) {
-    takes(rt, node, BAM);
-    takes(rt, node, SECOND[0]);
-    comes_after(rt, node);
-    gives_twenty(rt, node, &TWO);
-    is_quiet(rt, node);
-}
-
-// A node that doesn't learn of the loss puts a message together that nobody sent.
-fn is_not_told(rt: &impl Abort, node: &mut Node) {
-    comes_before(rt, node);
-    comes_after(rt, node);
-    gives_twenty(rt, node, &MIXED);
-}
-
-// A node that learns of the loss gives neither message.
-fn is_told(rt: &impl Abort, node: &mut Node) {
-    comes_before(rt, node);
-    misses(rt, node);
-    comes_after(rt, node);
-    is_quiet(rt, node);
-    comes_whole(rt, node);
-}
+// second. A node that doesn't learn of the loss puts a message together that nobody sent.
+const UNREPORTED: [(Address, Step); 7] = [
+    (B, Step::Open(20, 1)),
+    (B, Step::Do(NodeCall::Feed(BAM), 0)),
+    (B, Step::Do(NodeCall::Feed(FIRST_OF_ONE), 0)),
+    (B, Step::Do(NodeCall::Feed(SECOND_OF_ONE), 0)),
+    (B, Step::Do(NodeCall::Feed(SECOND_OF_TWO), 0)),
+    (B, Step::Do(NodeCall::Feed(THIRD_OF_TWO), 0)),
+    (B, Step::Twenty(MIXED)),
+];
 
 #[test]
 fn unreported_loss(rt: HostRuntime) {
-    let mut node = node(&rt, rt.alloc(), B);
-    is_not_told(&rt, &mut node);
+    does(&rt, rt.alloc(), &UNREPORTED);
 }
+
+// A node that learns of the loss gives neither message. The second one, sent again, is received whole.
+const REPORTED: [(Address, Step); 14] = [
+    (B, Step::Open(20, 1)),
+    (B, Step::Do(NodeCall::Feed(BAM), 0)),
+    (B, Step::Do(NodeCall::Feed(FIRST_OF_ONE), 0)),
+    (B, Step::Do(NodeCall::Feed(SECOND_OF_ONE), 0)),
+    (B, Step::Miss),
+    (B, Step::Do(NodeCall::Feed(SECOND_OF_TWO), 0)),
+    (B, Step::Do(NodeCall::Feed(THIRD_OF_TWO), 0)),
+    (B, Step::Quiet),
+    (B, Step::Do(NodeCall::Feed(BAM), 0)),
+    (B, Step::Do(NodeCall::Feed(FIRST_OF_TWO), 0)),
+    (B, Step::Do(NodeCall::Feed(SECOND_OF_TWO), 0)),
+    (B, Step::Do(NodeCall::Feed(THIRD_OF_TWO), 0)),
+    (B, Step::Twenty(TWO)),
+    (B, Step::Quiet),
+];
 
 #[test]
 fn reported_loss(rt: HostRuntime) {
-    let mut node = node(&rt, rt.alloc(), B);
-    is_told(&rt, &mut node);
+    does(&rt, rt.alloc(), &REPORTED);
 }
 
-// An RTS is put to each of two nodes.
-fn begins_two(rt: &impl Abort, node: &mut Node) {
-    for to in [B, Address(0x36)] {
-        same(rt, send(node, to, pgn(rt), &TWO), Ok(1));
-        same(rt, front(node).is_ok(), true);
-        same(rt, sent(node), Ok(()));
-    }
-}
-
-// Both connections end.
-fn ends_two(rt: &impl Abort, node: &mut Node) {
-    misses(rt, node);
-    ends(rt, node, B, 1, Outcome::Overrun);
-    ends(rt, node, Address(0x36), 1, Outcome::Overrun);
-    is_quiet(rt, node);
-    same(rt, due(node), None);
-}
+// An RTS is put to each of two nodes, and both connections end.
+const UNDER_WAY: [(Address, Step); 9] = [
+    (A, Step::Do(NodeCall::Send(B, &TWO), 1)),
+    (A, Step::PutAny),
+    (A, Step::Do(NodeCall::Send(Address(0x36), &TWO), 1)),
+    (A, Step::PutAny),
+    (A, Step::Miss),
+    (A, Step::End(B, 1, Outcome::Overrun)),
+    (A, Step::End(Address(0x36), 1, Outcome::Overrun)),
+    (A, Step::Quiet),
+    (A, Step::Due(None)),
+];
 
 #[test]
 fn connections_under_way(rt: HostRuntime) {
-    let mut node = node(&rt, rt.alloc(), A);
-    begins_two(&rt, &mut node);
-    ends_two(&rt, &mut node);
+    does(&rt, rt.alloc(), &UNDER_WAY);
 }
