@@ -2,5 +2,6 @@
 mod endings;
 mod ends;
 mod pace;
+mod played;
 mod relays;
 mod segments;

@@ -1,28 +1,16 @@
 //! The ends of a relay whose turns don't run out: at its limit, with one of its sides, and when it is stopped. Each of these relays also
 //! ends, in the same way, if no second thread can be made.
-use crate::checks::{got, holds, same};
-use crate::relay::ends::*;
-use message_events::Bytes;
-use port_relay::{Ended, Gate, Relayed, Stop};
-use segment_rings::Delivery;
+use super::ends::*;
+use super::played::{Carried, End, NO_END, Open, Step, does, has_memory, is_ended, run};
+use crate::checks::holds;
+use port_relay::{Ended, Gate, Stop};
 use segment_shared::Refusal;
-use std::alloc::{AllocError, Global};
+use std::alloc::Global;
 use std::process::Abort;
 use std::sync::Wait;
 use std::sync::atomic::{AtomicU64, Ordering};
 use std::thread;
 use std::thread::Threads;
-
-/// More turns than a relay makes in any time.
-const NO_END: u64 = u64::MAX;
-
-/// Lets each side pass at once.
-#[derive(Drop)]
-struct Open {}
-
-impl Gate for Open {
-    fn pass(&self, _side: u8, _turn: u64) {}
-}
 
 fn job(limit: u64, turns: u64) -> Job {
     Job {
@@ -32,92 +20,65 @@ fn job(limit: u64, turns: u64) -> Job {
     }
 }
 
-// Gives so many messages of so many bytes, the first of which are 1, 2, 3 and so on.
-fn give_all(rt: &impl Abort, alloc: Global, ends: &mut Ends, messages: u8, many: u8) {
-    for k in 0..messages {
-        give(rt, alloc, &mut ends.door, k.wrapping_add(1), many);
-    }
-}
-
-fn carry<R: Threads + Wait + Abort + Sync, G: Gate + Sync>(
-    rt: &R,
-    alloc: Global,
-    ends: &mut Ends,
-    job: &Job,
-    gate: &G,
-    stop: Option<&Stop>,
-) -> Relayed {
-    let Ends { inbox, client, .. } = ends;
-    got(rt, run_whole(rt, alloc, inbox, client, job, gate, stop))
-}
-
-// So many were pulled, pushed and left, and for these reasons the sides ended, or for want of memory if one of them lacked it.
-fn is_ended(rt: &impl Abort, carried: &Relayed, meant: [u64; 3], pulling: Ended, pushing: Ended) {
-    has_memory(rt, carried);
-    got(rt, counts(carried, meant));
-    same(rt, carried.pulling, pulling);
-    same(rt, carried.pushing, pushing);
-}
-
-fn has_memory(rt: &impl Abort, carried: &Relayed) {
-    if carried.pulling == Ended::OutOfMemory || carried.pushing == Ended::OutOfMemory {
-        got(rt, Err(AllocError))
-    }
-}
-
-fn carry_to_the_limit<R: Threads + Wait + Abort + Sync>(rt: &R, alloc: Global, ends: &mut Ends) {
-    give_all(rt, alloc, ends, 40, 9);
-    let carried = carry(rt, alloc, ends, &job(40, NO_END), &Open {}, None);
-    is_ended(rt, &carried, [40, 40, 0], Ended::Limit, Ended::OtherEnded);
-    drop(carried);
-}
+const TO_THE_LIMIT: [Step; 2] = [
+    Step::Give(40, 9),
+    Step::EndAlone(End {
+        limit: 40,
+        counts: [40, 40, 0],
+        pulling: Ended::Limit,
+        pushing: Ended::OtherEnded,
+    }),
+];
 
 #[test]
 fn a_relay_ends_at_its_limit(rt: HostRuntime) {
-    let mut ends = Ends::new(&rt, rt.alloc());
-    carry_to_the_limit(&rt, rt.alloc(), &mut ends);
-    drop(ends);
+    does(&rt, rt.alloc(), &TO_THE_LIMIT);
 }
 
 // The only message is too short to be submitted, and no other arrives: the receiving ends too.
-fn carry_a_short_one<R: Threads + Wait + Abort + Sync>(rt: &R, alloc: Global, ends: &mut Ends) {
-    give_all(rt, alloc, ends, 1, 8);
-    let carried = carry(rt, alloc, ends, &job(5, NO_END), &Open {}, None);
-    let refused = Ended::Refused(Refusal::TooShort);
-    is_ended(rt, &carried, [1, 0, 1], Ended::OtherEnded, refused);
-    drop(carried);
-}
+const A_SHORT_ONE: [Step; 2] = [
+    Step::Give(1, 8),
+    Step::EndAlone(End {
+        limit: 5,
+        counts: [1, 0, 1],
+        pulling: Ended::OtherEnded,
+        pushing: Ended::Refused(Refusal::TooShort),
+    }),
+];
 
 #[test]
 fn the_receiving_ends_with_the_submitting(rt: HostRuntime) {
-    let mut ends = Ends::new(&rt, rt.alloc());
-    carry_a_short_one(&rt, rt.alloc(), &mut ends);
-    drop(ends);
+    does(&rt, rt.alloc(), &A_SHORT_ONE);
 }
 
-fn is_by_turns(rt: &impl Abort, ended: Ended) {
-    holds(rt, ended == Ended::Turns || ended == Ended::OtherEnded);
+fn is_by_turns(ended: Ended) -> bool {
+    ended == Ended::Turns || ended == Ended::OtherEnded
 }
 
-// Which side is through its turns first is the threads' affair.
-fn carry_nothing<R: Threads + Wait + Abort + Sync>(rt: &R, alloc: Global, ends: &mut Ends) {
-    let carried = carry(rt, alloc, ends, &job(5, 7), &Open {}, None);
+/// Which side is through its turns first is the threads' affair.
+pub(super) fn carries_nothing<R: Threads + Wait + Abort + Sync>(
+    rt: &R,
+    alloc: Global,
+    ends: &mut Ends,
+) -> bool {
+    let carried = run(rt, alloc, ends, &job(5, 7), &Open {}, None);
     has_memory(rt, &carried);
-    same(rt, (carried.pulled, carried.pushed), (0, 0));
-    is_by_turns(rt, carried.pulling);
-    is_by_turns(rt, carried.pushing);
-    holds(
-        rt,
-        carried.pulling != carried.pushing || carried.pulling == Ended::Turns,
-    );
-    drop(carried);
+    let [pulled, pushed, _] = carried.counts;
+    let is_nothing = pulled == 0 && pushed == 0;
+    let by_turns = is_by_turns(carried.pulling) && is_by_turns(carried.pushing);
+    is_nothing && by_turns && is_one_of_both(&carried, Ended::Turns)
 }
+
+// Whether at least one side ended for this reason.
+fn is_one_of_both(carried: &Carried, reason: Ended) -> bool {
+    carried.pulling != carried.pushing || carried.pulling == reason
+}
+
+const NOTHING: [Step; 1] = [Step::CarryNothing];
 
 #[test]
 fn a_relay_ends_after_its_turns(rt: HostRuntime) {
-    let mut ends = Ends::new(&rt, rt.alloc());
-    carry_nothing(&rt, rt.alloc(), &mut ends);
-    drop(ends);
+    does(&rt, rt.alloc(), &NOTHING);
 }
 
 /// The turn of a side by which something else must have ended the other one.
@@ -157,59 +118,72 @@ impl Gate for OnceFull<'_> {
     }
 }
 
-fn starts_with(rt: &impl Abort, bytes: &Bytes, first: u8) {
-    holds(rt, bytes.len() > 0);
-    same(rt, bytes.as_slice()[0], first);
-}
-
-fn are_in_order(rt: &impl Abort, left: &[Delivery]) {
-    let mut first = 0u8;
-    for delivery in left {
-        first = first.wrapping_add(1);
-        starts_with(rt, &delivery.bytes, first);
-    }
-}
-
-// The client's ring is full: the first message waits with the side that submits, sixteen in the line, and one with the side that receives.
-fn stop_when_full<R: Threads + Wait + Abort + Sync>(rt: &R, alloc: Global, ends: &mut Ends) {
-    give_all(rt, alloc, ends, 40, 9);
-    for _ in 0..64 {
-        submit(rt, &mut ends.client, RECEIVER, bytes(rt, alloc, 0x80, 9));
-    }
+pub(super) fn is_stopped_when_full<R: Threads + Wait + Abort + Sync>(
+    rt: &R,
+    alloc: Global,
+    ends: &mut Ends,
+    end: &End,
+) -> bool {
     let stop = Stop::new();
     let gate = OnceFull {
         stop: &stop,
         steps: AtomicU64::new(0),
     };
-    let carried = carry(rt, alloc, ends, &job(40, NO_END), &gate, Some(&stop));
-    is_ended(rt, &carried, [18, 0, 18], Ended::Stopped, Ended::Stopped);
-    are_in_order(rt, carried.left.as_slice());
-    drop(carried);
+    let carried = run(rt, alloc, ends, &job(end.limit, NO_END), &gate, Some(&stop));
+    is_ended(rt, &carried, end)
 }
+
+// The client's ring is full: the first message waits with the side that submits, sixteen in the line, and one with the side that receives.
+const WHEN_FULL: [Step; 3] = [
+    Step::Give(40, 9),
+    Step::Fill(64),
+    Step::StopWhenFull(End {
+        limit: 40,
+        counts: [18, 0, 18],
+        pulling: Ended::Stopped,
+        pushing: Ended::Stopped,
+    }),
+];
 
 #[test]
 fn what_a_stopped_relay_holds_is_left(rt: HostRuntime) {
-    let mut ends = Ends::new(&rt, rt.alloc());
-    stop_when_full(&rt, rt.alloc(), &mut ends);
-    drop(ends);
+    does(&rt, rt.alloc(), &WHEN_FULL);
 }
 
-fn stop_before<R: Threads + Wait + Abort + Sync>(rt: &R, alloc: Global, ends: &mut Ends) {
-    give_all(rt, alloc, ends, 3, 9);
+pub(super) fn is_stopped_before<R: Threads + Wait + Abort + Sync>(
+    rt: &R,
+    alloc: Global,
+    ends: &mut Ends,
+    end: &End,
+) -> bool {
     let stop = Stop::new();
     holds(rt, !stop.is_stopped());
     stop.stop();
     holds(rt, stop.is_stopped());
-    let carried = carry(rt, alloc, ends, &job(3, NO_END), &Open {}, Some(&stop));
-    is_ended(rt, &carried, [0, 0, 0], Ended::Stopped, Ended::Stopped);
-    drop(carried);
+    let carried = run(
+        rt,
+        alloc,
+        ends,
+        &job(end.limit, NO_END),
+        &Open {},
+        Some(&stop),
+    );
+    is_ended(rt, &carried, end)
 }
+
+const BEFORE: [Step; 2] = [
+    Step::Give(3, 9),
+    Step::StopBefore(End {
+        limit: 3,
+        counts: [0, 0, 0],
+        pulling: Ended::Stopped,
+        pushing: Ended::Stopped,
+    }),
+];
 
 #[test]
 fn a_relay_that_is_stopped_before_moves_nothing(rt: HostRuntime) {
-    let mut ends = Ends::new(&rt, rt.alloc());
-    stop_before(&rt, rt.alloc(), &mut ends);
-    drop(ends);
+    does(&rt, rt.alloc(), &BEFORE);
 }
 
 /// How often the thread that stops looks whether the relay has begun.
@@ -247,8 +221,8 @@ fn carry_counted<R: Threads + Wait + Abort + Sync>(
     ends: &mut Ends,
     gate: &Counted,
     stop: &Stop,
-) -> Relayed {
-    let carried = carry(rt, alloc, ends, &job(3, NO_END), gate, Some(stop));
+) -> Carried {
+    let carried = run(rt, alloc, ends, &job(3, NO_END), gate, Some(stop));
     gate.turns.fetch_add(BEGUN, Ordering::SeqCst);
     carried
 }
@@ -257,9 +231,11 @@ fn is_stopped(ended: Ended) -> bool {
     ended == Ended::Stopped || ended == Ended::OtherEnded
 }
 
-// Two messages of three arrive, so that nothing but the other thread ends the relay.
-fn stop_beside<R: Threads + Wait + Abort + Sync>(rt: &R, alloc: Global, ends: &mut Ends) {
-    give_all(rt, alloc, ends, 2, 9);
+pub(super) fn is_stopped_beside<R: Threads + Wait + Abort + Sync>(
+    rt: &R,
+    alloc: Global,
+    ends: &mut Ends,
+) -> bool {
     let stop = Stop::new();
     let gate = Counted {
         turns: AtomicU64::new(0),
@@ -270,35 +246,29 @@ fn stop_beside<R: Threads + Wait + Abort + Sync>(rt: &R, alloc: Global, ends: &m
         || stop_later(&gate, &stop),
     );
     has_memory(rt, &carried);
-    holds(
-        rt,
-        is_stopped(carried.pulling) && is_stopped(carried.pushing),
-    );
-    holds(
-        rt,
-        carried.pulling != carried.pushing || carried.pulling == Ended::Stopped,
-    );
-    drop(carried);
+    let both = is_stopped(carried.pulling) && is_stopped(carried.pushing);
+    both && is_one_of_both(&carried, Ended::Stopped)
 }
+
+// Two messages of three arrive, so that nothing but the other thread ends the relay.
+const BESIDE: [Step; 2] = [Step::Give(2, 9), Step::StopBeside];
 
 #[test]
 fn another_thread_stops_a_relay(rt: HostRuntime) {
-    let mut ends = Ends::new(&rt, rt.alloc());
-    stop_beside(&rt, rt.alloc(), &mut ends);
-    drop(ends);
+    does(&rt, rt.alloc(), &BESIDE);
 }
 
-fn cross<R: Threads + Wait + Abort + Sync>(rt: &R, alloc: Global, ends: &mut Ends) {
-    give_all(rt, alloc, ends, 40, 9);
-    let Ends { inbox, client, .. } = ends;
-    let carried = got(rt, relayed(rt, alloc, inbox, client, &job(40, NO_END)));
-    is_ended(rt, &carried, [40, 40, 0], Ended::Limit, Ended::OtherEnded);
-    drop(carried);
-}
+const CROSSED: [Step; 2] = [
+    Step::Give(40, 9),
+    Step::EndCrossed(End {
+        limit: 40,
+        counts: [40, 40, 0],
+        pulling: Ended::Limit,
+        pushing: Ended::OtherEnded,
+    }),
+];
 
 #[test]
 fn relay_crossed(rt: HostRuntime) {
-    let mut ends = Ends::new(&rt, rt.alloc());
-    cross(&rt, rt.alloc(), &mut ends);
-    drop(ends);
+    does(&rt, rt.alloc(), &CROSSED);
 }

@@ -1,6 +1,7 @@
 //! A relay between two segments.
-use crate::checks::{got, holds, same};
-use crate::relay::ends::*;
+use super::ends::*;
+use super::played::{cross, has_counts};
+use crate::checks::{got, holds};
 use pgn_ids::Address;
 use segment_shared::{Client, Delivery, Inbox, Live};
 use std::alloc::Global;
@@ -45,20 +46,15 @@ impl Segment {
     }
 }
 
-fn is_given(rt: &impl Abort, given: &Delivery) {
-    same(rt, given.from, GATEWAY);
-    same(rt, given.to, FAR);
-    same(rt, given.pgn.raw(), FECA);
-    holds(
-        rt,
-        given.bytes.as_slice() == [1, 2, 3, 4, 5, 6, 7, 8, 9].as_slice(),
-    );
+fn is_given(given: &Delivery) -> bool {
+    let is_of_gateway = given.from == GATEWAY && given.to == FAR && given.pgn.raw() == FECA;
+    is_of_gateway && given.bytes.as_slice() == [1, 2, 3, 4, 5, 6, 7, 8, 9].as_slice()
 }
 
 fn receives(rt: &impl Abort, inbox: &mut Inbox) {
     let came = got(rt, inbox.try_receive());
     let given = got(rt, came.ok_or("nothing came"));
-    is_given(rt, &given);
+    holds(rt, is_given(&given));
     drop(given);
 }
 
@@ -74,9 +70,8 @@ fn carry<R: Threads + Wait + Abort + Sync>(
         limit: 1,
         turns: TURNS,
     };
-    let carried = got(rt, relayed(rt, alloc, inbox, client, &job));
-    got(rt, counts(&carried, [1, 1, 0]));
-    drop(carried);
+    let carried = cross(rt, alloc, inbox, client, &job);
+    has_counts(rt, &carried, [1, 1, 0]);
 }
 
 fn send_and_carry<R: Threads + Wait + Abort + Sync>(
