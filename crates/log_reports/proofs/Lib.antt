@@ -1,5 +1,3 @@
 mod LampSteps
 mod Steps
 pub mod FieldSteps
-pub mod FieldWalk
-mod Named

@@ -1,11 +1,6 @@
 -- Fields of text, each ended by an asterisk.
-use Rattle.std.specs.Prelude.{ℕ, List, [], ◌∷◌, ◌++◌, map, ◌==◌, if◌then◌else◌}
-use Rattle.std.specs.Borrow.{Bor}
+use Rattle.std.specs.Prelude.{ℕ, List, [], ◌∷◌, ◌++◌, ◌==◌, if◌then◌else◌}
 use Rattle.log_reports.specs.Padding.{is_filled}
-
--- what references point to
-abbrev pub texts : List (Bor (List ℕ)) → List (List ℕ)
-texts fields = map (λ f. f.now) fields
 
 -- the text behind the last asterisk is a field too, unless it is padding or empty
 abbrev pub last_field : List ℕ → List (List ℕ)

@@ -8,7 +8,6 @@
 mod bytes;
 mod escapes;
 mod faults;
-mod fields;
 mod groups;
 mod key;
 mod lamps;

@@ -1,12 +1,12 @@
 //! The lines of an identification.
-ghost use Rattle.std.specs.Prelude.{◌≡◌, ◌++◌, ◌+◌, length, IfOk, OnOk};
-ghost use Rattle.log_reports.specs.Fields.{texts};
+ghost use Rattle.std.specs.Prelude.{◌≡◌, ◌++◌, IfOk, OnOk};
+ghost use Rattle.log_reports.specs.Fields.{fields_of};
 ghost use Rattle.log_reports.specs.Texts.{behind_colon, field_line, field_lines, identification, found_text, count_line, software_identification};
 
 use crate::escapes::put_escaped;
-use crate::fields::split_fields;
 use crate::line::{Line, plain_line, wrong_length};
 use crate::naming::{Kind, put_name};
+use crate::padding::is_filled;
 use std::alloc::{AllocError, Global};
 use text_digits::{put_decimal, put_text};
 
@@ -30,19 +30,26 @@ fn field_line(alloc: Global, kind: Kind, number: u64, field: &[u8]) -> Result<Li
     Ok(Line::new(text))
 }
 
-/// A line for each field.
-fn push_fields(
-    alloc: Global,
-    lines: &mut Vec<Line>,
-    kind: Kind,
-    fields: &[&[u8]],
-) -> Result<(), AllocError>
-    ensures { OnOk result (lines.new.items ≡ lines.old.items ++ field_lines kind 1 (texts fields.now)) }
+/// A line for each field of a text, each ended by an asterisk. The text behind the last one is a field too, unless it is padding or empty.
+fn field_lines(alloc: Global, kind: Kind, text: &[u8]) -> Result<Vec<Line>, AllocError>
+    ensures { IfOk result (λ lines. lines.items ≡ field_lines kind 1 (fields_of text.now)) }
 {
-    for (at, field) in fields.iter().enumerate() {
-        lines.push(field_line(alloc, kind, at as u64 + 1, *field)?)?;
+    let mut lines = Vec::new(alloc);
+    let mut start = 0;
+    let mut before = 0;
+    for (at, byte) in text.iter().enumerate() {
+        if *byte == b'*' {
+            lines.push(field_line(alloc, kind, before + 1, &text[start..at])?)?;
+            start = at + 1;
+            before += 1;
+        }
     }
-    Ok(())
+    let last = &text[start..];
+    if last.is_empty() || is_filled(last) {
+        return Ok(lines);
+    }
+    lines.push(field_line(alloc, kind, before + 1, last)?)?;
+    Ok(lines)
 }
 
 /// The lines of an identification of a vehicle, a component or an ECU: one for each of its fields, or one that says that there is none.
@@ -50,13 +57,10 @@ fn push_fields(
 pub fn identification(alloc: Global, kind: Kind, text: &[u8]) -> Result<Vec<Line>, AllocError>
     ensures { IfOk result (λ lines. lines.items ≡ identification kind text.now) }
 {
-    let mut lines = Vec::new(alloc);
-    let fields = split_fields(alloc, text)?;
-    if fields.is_empty() {
+    let mut lines = field_lines(alloc, kind, text)?;
+    if lines.is_empty() {
         lines.push(plain_line(alloc, "no text")?)?;
-        return Ok(lines);
     }
-    push_fields(alloc, &mut lines, kind, fields.as_slice())?;
     Ok(lines)
 }
 
@@ -86,13 +90,12 @@ fn count_line(alloc: Global, announced: u8, found: u64) -> Result<Line, AllocErr
 pub fn software_identification(alloc: Global, bytes: &[u8]) -> Result<Vec<Line>, AllocError>
     ensures { IfOk result (λ lines. lines.items ≡ software_identification bytes.now) }
 {
-    let mut lines = Vec::new(alloc);
     let Some((announced, text)) = bytes.split_first() else {
+        let mut lines = Vec::new(alloc);
         lines.push(wrong_length(alloc, 0)?)?;
         return Ok(lines);
     };
-    let fields = split_fields(alloc, text)?;
-    lines.push(count_line(alloc, *announced, fields.len() as u64)?)?;
-    push_fields(alloc, &mut lines, Kind::Software, fields.as_slice())?;
+    let mut lines = field_lines(alloc, Kind::Software, text)?;
+    lines.insert(0, count_line(alloc, *announced, lines.len() as u64)?)?;
     Ok(lines)
 }
