@@ -15,8 +15,8 @@ use Rattle.line_runs.proofs.Written.{front_then}
 use Rattle.bus_decode.specs.Listening.{Listening}
 use Rattle.bus_decode.specs.Outcome.{Reading, told_by, Outcome, last_outcome, then_end, first_listening, outcome}
 use Rattle.bus_decode.specs.Ending.{CountedBy, CountedByCause, Ended, EndsRun}
-use Rattle.log_summary.specs.declared.counts.Counts.{Counts}
-use Rattle.log_summary.specs.declared.options.Options.{Options}
+use Rattle.bus_decode.specs.declared.counts.Counts.{Counts}
+use Rattle.bus_decode.specs.declared.options.Options.{Options}
 use Rattle.bus_decode.specs.declared.running.Decoded.{Decoded}
 
 appends_two : (a b c : Option (List ℕ)) (p t : List ℕ) → Appends a b p → Appends b c t → Appends a c (p ++ t)

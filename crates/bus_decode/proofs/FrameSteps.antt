@@ -10,14 +10,14 @@ use Rattle.log_reports.specs.declared.stray.Stray.{Stray}
 use Rattle.log_reports.specs.declared.told.Told.{Told}
 use Rattle.log_courses.specs.Awaited.{Awaited, awaiting_each}
 use Rattle.log_courses.specs.Strays.{stray_left}
-use Rattle.log_courses.specs.declared.course.Place.{Place}
+use Rattle.log_reports.specs.declared.marks.Place.{Place}
 use Rattle.bus_decode.specs.Followed.{heard_followed}
 use Rattle.bus_decode.specs.Telling.{told_text}
 use Rattle.bus_decode.specs.declared.followed.Followed.{Followed}
 use Rattle.bus_decode.specs.Listening.{Hearing, Seen, single, frame_told, frame_counts, frame_seen}
-use Rattle.log_summary.specs.declared.counts.Counts.{Counts}
+use Rattle.bus_decode.specs.declared.counts.Counts.{Counts}
 use Rattle.bus_decode.specs.declared.listener.Listener.{Listener}
-use Rattle.log_summary.specs.declared.options.Options.{Options}
+use Rattle.bus_decode.specs.declared.options.Options.{Options}
 
 abbrev place_of : State → Counts → Place
 place_of d counts = record { number = counts.frames; time = d.time }

@@ -6,7 +6,7 @@ use Rattle.line_runs.specs.declared.running.Told.TheVariants.{Answered}
 use Rattle.log_courses.specs.Course.{more}
 use Rattle.bus_decode.specs.Listening.{Listening, Step, Read, line_seen}
 use Rattle.bus_decode.specs.Outcome.{Reading, with_options, without_text, told_by, logged_by, error_of}
-use Rattle.log_summary.specs.declared.options.Options.{Options}
+use Rattle.bus_decode.specs.declared.options.Options.{Options}
 use Rattle.bus_decode.specs.declared.listening.LineError.{LineError}
 use Rattle.bus_decode.specs.declared.listening.LineError.TheVariants as errors
 

@@ -4,8 +4,8 @@ use Rattle.line_faults.specs.declared.ending.Cause.{Cause}
 use Rattle.line_faults.specs.declared.ending.Cause.TheVariants as causes
 use Rattle.line_faults.specs.declared.ending.ScriptFault.{ScriptFault}
 use Rattle.line_runs.specs.Ending.{EndedBy}
-use Rattle.log_summary.specs.declared.counts.Counts.{Counts}
-use Rattle.log_summary.specs.declared.options.Options.{Options}
+use Rattle.bus_decode.specs.declared.counts.Counts.{Counts}
+use Rattle.bus_decode.specs.declared.options.Options.{Options}
 use Rattle.bus_decode.specs.Listening.{Hearing}
 use Rattle.bus_decode.specs.Outcome.{Outcome, last_outcome}
 use Rattle.bus_decode.specs.declared.running.Decoded.{Decoded}

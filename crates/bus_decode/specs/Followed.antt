@@ -4,12 +4,12 @@ use Rattle.bus_frame.specs.Frames.{CanFrame}
 use Rattle.log_fields.specs.declared.iface.Iface.{Iface}
 use Rattle.log_courses.specs.Courses.{course_of, without_told, followed}
 use Rattle.log_courses.specs.declared.course.Course.{Course}
-use Rattle.log_courses.specs.declared.course.Place.{Place}
+use Rattle.log_reports.specs.declared.marks.Place.{Place}
 use Rattle.log_reports.specs.declared.told.Told.{Told}
-use Rattle.log_summary.specs.Rows.{Summary, no_summary, with_frame, with_message}
-use Rattle.log_summary.specs.Options.{sums_up, follows, detail_of}
+use Rattle.log_courses.specs.Rows.{Summary, no_summary, with_frame, with_message}
+use Rattle.bus_decode.specs.Options.{sums_up, follows, detail_of}
 use Rattle.bus_decode.specs.declared.followed.Followed.{Followed}
-use Rattle.log_summary.specs.declared.options.Options.{Options}
+use Rattle.bus_decode.specs.declared.options.Options.{Options}
 
 abbrev pub none_followed : Followed
 none_followed = record { courses = []; summary = no_summary }

@@ -1,3 +1,6 @@
+pub mod Options
+pub mod Strays
+pub mod Counts
 pub mod Followed
 pub mod Telling
 pub mod Listening

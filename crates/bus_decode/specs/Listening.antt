@@ -10,22 +10,22 @@ use Rattle.log_fields.specs.declared.iface.Iface.{Iface}
 use Rattle.log_text.specs.declared.line.LogLine.{LogLine}
 use Rattle.log_text.specs.declared.line.LogLine.TheVariants.{Frame, Passed}
 use Rattle.log_courses.specs.Awaited.{Awaited, awaiting_each}
-use Rattle.log_courses.specs.declared.course.Place.{Place}
+use Rattle.log_reports.specs.declared.marks.Place.{Place}
 use Rattle.log_decode.specs.View.{State, bus_at}
 use Rattle.log_decode.specs.Decoder.{taken, ended}
 use Rattle.log_decode.specs.Stray.{stray_seen}
 use Rattle.log_courses.specs.Strays.{stray_left}
 use Rattle.log_courses.specs.Course.{more}
-use Rattle.log_summary.specs.Counts.{with_frame, with_strays, with_each}
+use Rattle.bus_decode.specs.Counts.{with_frame, with_strays, with_each}
 use Rattle.log_reports.specs.declared.stray.Stray.{Stray}
 use Rattle.log_reports.specs.declared.told.Told.{Told}
 use Rattle.bus_decode.specs.Followed.{none_followed, heard_followed, left_followed}
-use Rattle.log_summary.specs.Options.{shows_singles}
+use Rattle.bus_decode.specs.Options.{shows_singles}
 use Rattle.bus_decode.specs.Telling.{told_text, summary_text, single_text, wrong_text}
 use Rattle.bus_decode.specs.declared.followed.Followed.{Followed}
-use Rattle.log_summary.specs.declared.counts.Counts.{Counts}
+use Rattle.bus_decode.specs.declared.counts.Counts.{Counts}
 use Rattle.bus_decode.specs.declared.listener.Listener.{Listener}
-use Rattle.log_summary.specs.declared.options.Options.{Options}
+use Rattle.bus_decode.specs.declared.options.Options.{Options}
 use Rattle.bus_decode.specs.declared.listening.LineError.{LineError}
 use Rattle.bus_decode.specs.declared.listening.LineError.TheVariants as errors
 use Rattle.line_faults.specs.declared.fault.Fault.{Fault}

@@ -7,10 +7,10 @@ use Rattle.line_faults.specs.declared.fault.LineError.TheVariants as script_erro
 use Rattle.line_runs.specs.Limits.{log_limits}
 use Rattle.line_runs.specs.Outcome as lines
 use Rattle.log_courses.specs.Course.{more}
-use Rattle.log_summary.specs.Counts.{no_counts}
+use Rattle.bus_decode.specs.Counts.{no_counts}
 use Rattle.bus_decode.specs.Listening.{Hearing, Listening, Step, first_listener, line_seen, ended_counts, ended_text}
-use Rattle.log_summary.specs.declared.counts.Counts.{Counts}
-use Rattle.log_summary.specs.declared.options.Options.{Options}
+use Rattle.bus_decode.specs.declared.counts.Counts.{Counts}
+use Rattle.bus_decode.specs.declared.options.Options.{Options}
 use Rattle.bus_decode.specs.declared.listening.LineError.{LineError}
 use Rattle.bus_decode.specs.declared.listening.LineError.TheVariants as errors
 

@@ -5,7 +5,7 @@ use Rattle.pgn_ids.specs.Identifier.{meaning_of}
 use Rattle.log_fields.specs.declared.iface.Iface.{Iface}
 use Rattle.log_courses.specs.Courses.{course_of}
 use Rattle.log_courses.specs.declared.course.Course.{Course}
-use Rattle.log_courses.specs.declared.course.Place.{Place}
+use Rattle.log_reports.specs.declared.marks.Place.{Place}
 use Rattle.log_reports.specs.declared.told.Told.{Told}
 use Rattle.log_reports.specs.declared.told.Told.TheVariants.{Given, Aborted, Lost}
 use Rattle.log_reports.specs.Groups.{explained}
@@ -13,12 +13,12 @@ use Rattle.log_lines.specs.Explained.{words_lines}
 use Rattle.log_lines.specs.Listing.{mark_lines}
 use Rattle.log_lines.specs.Text.{told_line, single_line, wrong_line}
 use Rattle.log_lines.specs.Json.{told_object, single_object, wrong_object}
-use Rattle.log_summary.specs.Rows.{Summary}
+use Rattle.log_courses.specs.Rows.{Summary}
 use Rattle.log_lines.specs.Rows.{row_objects, table_text}
 use Rattle.bus_decode.specs.Followed.{after_told}
-use Rattle.log_summary.specs.Options.{is_asked_for, shows, is_single_asked, follows, detail_of}
+use Rattle.bus_decode.specs.Options.{is_asked_for, shows, is_single_asked, follows, detail_of}
 use Rattle.bus_decode.specs.declared.followed.Followed.{Followed}
-use Rattle.log_summary.specs.declared.options.Options.{Options}
+use Rattle.bus_decode.specs.declared.options.Options.{Options}
 
 -- a message in words, if these are asked for
 abbrev pub in_words : Options → (pgn : ℕ) → List ℕ → List (List ℕ)

@@ -2,10 +2,10 @@
 ghost use Rattle.std.specs.Prelude.{◌≡◌, OnOk};
 ghost use Rattle.bus_decode.specs.Followed.{none_followed, summed, frame_summed, with_frame_of};
 
+use crate::options::Options;
 use bus_frame::Frame;
-use log_courses::{Course, Courses, Place};
-use log_reports::Told;
-use log_summary::{Options, Summary};
+use log_courses::{Course, Courses, Summary};
+use log_reports::{Place, Told};
 use log_text::Iface;
 use std::alloc::{AllocError, Global};
 

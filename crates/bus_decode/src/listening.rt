@@ -3,11 +3,12 @@ ghost use Rattle.std.specs.Prelude.{◌≡◌, ◌++◌, OnOk};
 ghost use Rattle.bus_decode.specs.Listening.{is_asking, single, frame_seen, shown_seen, form_with, seen_as, line_seen, Seen, Read, ended_counts, ended_text};
 ghost use Rattle.bus_decode.specs.declared.listening.LineError.TheVariants.{OutOfMemory};
 
+use crate::counts::Counts;
 use crate::listener::Listener;
+use crate::options::Options;
 use crate::telling::{tell, tell_frame, tell_single, tell_summary, tell_wrong};
 use bus_frame::Frame;
-use log_courses::Place;
-use log_summary::{Counts, Options};
+use log_reports::Place;
 use log_text::{Form, Iface, LogLine, form_of, read_line_as};
 use pgn_ids::read_id;
 use std::alloc::{AllocError, Global};

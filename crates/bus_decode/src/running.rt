@@ -4,11 +4,12 @@ ghost use Rattle.line_runs.specs.Ending.{status_of};
 ghost use Rattle.bus_decode.specs.Outcome.{outcome};
 ghost use Rattle.bus_decode.specs.Ending.{EndsRun, Ended};
 
+use crate::counts::Counts;
 use crate::listening::take_end;
+use crate::options::Options;
 use crate::taking::{Run, number_behind};
 use line_faults::{Cause, ScriptFault};
 use line_runs::{Limits, run_lines, status_of};
-use log_summary::{Counts, Options};
 use std::alloc::Global;
 use std::io;
 use std::io::{BufRead, Write};

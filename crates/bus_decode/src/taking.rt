@@ -1,15 +1,16 @@
 //! The lines of a log, one after another.
 ghost use Rattle.std.specs.Prelude.{◌≡◌, None};
 ghost use Rattle.log_courses.specs.Course.{more};
-ghost use Rattle.log_summary.specs.Counts.{no_counts};
+ghost use Rattle.bus_decode.specs.Counts.{no_counts};
 ghost use Rattle.bus_decode.specs.Listening.{first_listener};
 ghost use Rattle.bus_decode.specs.Outcome.{error_of};
 
+use crate::counts::Counts;
 use crate::listener::Listener;
 use crate::listening::{LineError, take_line};
+use crate::options::Options;
 use line_faults::{Fault, LineError as ScriptError};
 use line_runs::{Obeyer, Told};
-use log_summary::{Counts, Options};
 use log_text::Form;
 use std::alloc::Global;
 

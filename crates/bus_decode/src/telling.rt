@@ -6,14 +6,14 @@ ghost use Rattle.bus_decode.specs.Followed.{after_each, left_followed, heard_fol
 ghost use Rattle.bus_decode.specs.Telling.{in_words, words_told, message_text, shown_text, followed_text, plain_line, plain_text, told_text, summary_text, frame_text, single_text, wrong_text};
 
 use crate::followed::{Followed, sum_up};
+use crate::options::Options;
 use bus_frame::Frame;
-use log_courses::{Course, Place};
+use log_courses::{Course, Summary};
 use log_lines::{
     put_explained, put_marks, put_row_objects, put_single, put_single_object, put_table, put_told,
     put_told_object, put_wrong, put_wrong_object,
 };
-use log_reports::{Line, Told, explain};
-use log_summary::{Options, Summary};
+use log_reports::{Line, Place, Told, explain};
 use log_text::Iface;
 use pgn_ids::{Pgn, read_id};
 use std::alloc::{AllocError, Global};

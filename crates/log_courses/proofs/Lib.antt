@@ -1,1 +1,2 @@
 pub mod AtKey
+pub mod PutBack

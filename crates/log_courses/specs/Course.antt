@@ -1,17 +1,16 @@
 -- The course of a message (SAE J1939-21, transport protocol; ISO 11783-3, extended transport protocol).
-use Rattle.std.specs.Prelude.{ℕ, ◌+◌, ◌-◌, ◌^◌, List, [], ◌∷◌, ◌++◌, length, Bool, ◌==◌, nat_lt, min, max, if◌then◌else◌}
+use Rattle.std.specs.Prelude.{ℕ, ◌+◌, ◌-◌, ◌^◌, [], ◌∷◌, ◌++◌, ◌==◌, min, max, if◌then◌else◌}
 use Rattle.pgn_ids.specs.Pgn.{clean}
 use Rattle.tp_wire.specs.Rows.{cm_pgn}
 use Rattle.tp_wire.specs.declared.wire.CmFrame.{CmFrame}
 use Rattle.tp_wire.specs.declared.wire.CmFrame.TheVariants.{Rts, Cts, EndOfMsgAck, Bam, Abort, EtpRts, EtpCts, EtpDpo, EtpEoma, EtpAbort}
+use Rattle.log_reports.specs.Marks.{with_mark}
 use Rattle.log_courses.specs.declared.course.Course.{Course}
-use Rattle.log_courses.specs.declared.course.Place.{Place}
-use Rattle.log_courses.specs.declared.marks.TheConstants.{MOST_MARKS}
-use Rattle.log_courses.specs.declared.marks.Detail.{Detail}
-use Rattle.log_courses.specs.declared.marks.Detail.TheVariants.{Ends, Frames}
-use Rattle.log_courses.specs.declared.marks.Mark.{Mark}
-use Rattle.log_courses.specs.declared.marks.Step.{Step}
-use Rattle.log_courses.specs.declared.marks.Step.TheVariants.{Window, Again, Hold, End}
+use Rattle.log_reports.specs.declared.marks.Place.{Place}
+use Rattle.log_reports.specs.declared.marks.Detail.{Detail}
+use Rattle.log_reports.specs.declared.marks.Detail.TheVariants.{Ends, Frames}
+use Rattle.log_reports.specs.declared.marks.Step.{Step}
+use Rattle.log_reports.specs.declared.marks.Step.TheVariants.{Window, Again, Hold, End}
 
 -- a count, within 64 bits
 abbrev pub counted : ℕ → ℕ
@@ -38,14 +37,6 @@ asked_to asked granted next = if granted == 0 then asked else max asked (next + 
 
 abbrev pub with_grant : (granted next : ℕ) → Course → Course
 with_grant granted next c = record c { again = counted (c.again + asked_again c.asked granted next); asked = asked_to c.asked granted next }
-
--- fewer frames are listed than are at most
-abbrev pub has_room : List Mark → Bool
-has_room marks = nat_lt (length marks) MOST_MARKS
-
--- one more frame is listed, unless there are as many as are listed at most
-abbrev pub with_mark : Place → Step → List Mark → List Mark
-with_mark place step marks = if has_room marks then marks ++ (record { place = place; step = step }) ∷ [] else marks
 
 -- the effect of a frame is listed, if frames are listed
 abbrev pub noted : Detail → Place → Step → Course → Course

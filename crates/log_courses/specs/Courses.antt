@@ -23,9 +23,9 @@ use Rattle.log_reports.specs.declared.told.Told.TheVariants.{Given, Aborted, Los
 use Rattle.log_reports.specs.Told.{key_told, pgn_told}
 use Rattle.log_courses.specs.Course.{begun, longer, noted, ended, cm_followed}
 use Rattle.log_courses.specs.declared.course.Course.{Course}
-use Rattle.log_courses.specs.declared.course.Place.{Place}
-use Rattle.log_courses.specs.declared.marks.Detail.{Detail}
-use Rattle.log_courses.specs.declared.marks.Step.TheVariants.{Announcement}
+use Rattle.log_reports.specs.declared.marks.Place.{Place}
+use Rattle.log_reports.specs.declared.marks.Detail.{Detail}
+use Rattle.log_reports.specs.declared.marks.Step.TheVariants.{Announcement}
 
 -- the course of each message under way, by its key
 abbrev pub Courses : Type 0

@@ -1,21 +1,12 @@
 //! The course of a message.
 ghost use Rattle.std.specs.Prelude.{◌≡◌, ◌+◌, ◌<◌, ◌^◌, OnOk};
-ghost use Rattle.log_courses.specs.declared.marks.Step.TheVariants.{Announcement, Window};
+ghost use Rattle.log_reports.specs.declared.marks.Step.TheVariants.{Announcement, Window};
 ghost use Rattle.log_courses.specs.Course.{more, begun, longer, asked_again, asked_to, noted, again_noted, grant_noted, ended, with_grant, with_cm, cm_followed};
 
-use crate::marks::{Detail, Marks, Step};
+use log_reports::{Detail, Marks, Place, Step};
 use pgn_ids::Pgn;
 use std::alloc::{AllocError, Global};
 use tp_wire::CmFrame;
-
-/// The place of a frame in a log.
-#[derive(Clone, Copy)]
-pub struct Place {
-    /// The frame's number among the frames of the log, from 1.
-    pub number: u64,
-    /// The frame's time, in microseconds.
-    pub time: u64,
-}
 
 /// The frames of a message. A count that would pass 2^64 - 1 stays there.
 #[derive(Drop)]
@@ -36,7 +27,7 @@ pub struct Course {
 }
 
 /// One more, up to the last value.
-fn more(n: u64) -> u64
+pub(crate) fn more(n: u64) -> u64
     ensures { result ≡ more n }
 {
     n.saturating_add(1)

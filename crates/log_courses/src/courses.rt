@@ -1,15 +1,14 @@
 //! The courses of the messages under way.
 ghost use Rattle.std.specs.Prelude.{◌≡◌, [], OnOk, IfOk};
 ghost use Rattle.log_courses.specs.Course.{longer, noted, begun, cm_followed};
-ghost use Rattle.log_courses.specs.declared.marks.Step.TheVariants.{Announcement};
+ghost use Rattle.log_reports.specs.declared.marks.Step.TheVariants.{Announcement};
 ghost use Rattle.log_courses.specs.Courses.{is_by_frame, ends_by_frame, alone, course_of, without_told, is_refusal, refuses, is_refused, key_between, put, announced, changed_at, cm_frame_followed, wire_followed, followed};
 
-use crate::course::{Course, Place};
-use crate::marks::{Detail, Step};
+use crate::course::Course;
 use bus_frame::Frame;
 use indexmap::IndexMap;
 use log_fields::Iface;
-use log_reports::{Cause, Key, Told, Transport, key_told, pgn_told};
+use log_reports::{Cause, Detail, Key, Place, Step, Told, Transport, key_told, pgn_told};
 use pgn_ids::{Address, Pgn, WirePgn};
 use std::alloc::{AllocError, Global};
 use std::marker::Model;

@@ -1,9 +1,9 @@
 -- Objects whose members are put one behind the other.
 use Rattle.std.proofs.Common.{◌≡◌, List, ℕ, [], ◌∷◌, ◌++◌, Result, OnOk, refl, sym, ◌∙◌, ap, append_assoc, codes, true, false}
 use Rattle.std.specs.declared.alloc.AllocError.{AllocError}
-use Rattle.log_courses.specs.declared.marks.Detail.{Detail}
-use Rattle.log_courses.specs.declared.marks.Detail.TheVariants.{Ends, Frames}
-use Rattle.log_courses.specs.declared.marks.Mark.{Mark}
+use Rattle.log_reports.specs.declared.marks.Detail.{Detail}
+use Rattle.log_reports.specs.declared.marks.Detail.TheVariants.{Ends, Frames}
+use Rattle.log_reports.specs.declared.marks.Mark.{Mark}
 use Rattle.log_lines.specs.Objects.{Named, object_line, member_text, rest_text}
 use Rattle.log_lines.specs.Meanings.{with_explained, explained_text}
 use Rattle.log_lines.specs.Frames.{with_frames, frames_text}

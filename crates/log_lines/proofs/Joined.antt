@@ -4,8 +4,8 @@ use Rattle.std.specs.declared.alloc.AllocError.{AllocError}
 use Rattle.json.specs.Print.{escape_byte, quoted}
 use Rattle.serde_json.specs.Data.{Data, string}
 use Rattle.serde_json.specs.Written.{comma_if, compact_text, items_text, members_text}
-use Rattle.log_courses.specs.declared.marks.Mark.{Mark}
-use Rattle.log_summary.specs.declared.row.ReasonCount.{ReasonCount}
+use Rattle.log_reports.specs.declared.marks.Mark.{Mark}
+use Rattle.log_courses.specs.declared.row.ReasonCount.{ReasonCount}
 use Rattle.log_lines.specs.Objects.{Named, items_from, members_from, key_text, member_text}
 use Rattle.log_lines.specs.Joined.{joined}
 use Rattle.log_lines.specs.Meanings.{explained_text}

@@ -5,9 +5,9 @@ use Rattle.json.specs.Print.{quoted}
 use Rattle.log_lines.specs.Objects.{Named, object_of, count_of}
 use Rattle.serde_json.specs.Data.{Data}
 use Rattle.log_reports.specs.Causes.{cause_words}
-use Rattle.log_summary.specs.declared.row.Reason.{Reason}
-use Rattle.log_summary.specs.declared.row.Reason.TheVariants.{Abort, Loss}
-use Rattle.log_summary.specs.declared.row.ReasonCount.{ReasonCount}
+use Rattle.log_courses.specs.declared.row.Reason.{Reason}
+use Rattle.log_courses.specs.declared.row.Reason.TheVariants.{Abort, Loss}
+use Rattle.log_courses.specs.declared.row.ReasonCount.{ReasonCount}
 
 -- the reason of an abort in decimal digits, or the words for the cause of a loss
 abbrev pub reason_name : Reason → List ℕ

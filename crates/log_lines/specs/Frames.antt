@@ -3,12 +3,12 @@ use Rattle.std.specs.Prelude.{ℕ, List, [], ◌∷◌, map, true, codes}
 use Rattle.log_lines.specs.Objects.{Named, object_of, array_of, count_of, member_text}
 use Rattle.serde_json.specs.Data.{Data, string}
 use Rattle.serde_json.specs.Written.{compact_text}
-use Rattle.log_courses.specs.declared.course.Place.{Place}
-use Rattle.log_courses.specs.declared.marks.Detail.{Detail}
-use Rattle.log_courses.specs.declared.marks.Detail.TheVariants.{Ends, Frames}
-use Rattle.log_courses.specs.declared.marks.Mark.{Mark}
-use Rattle.log_courses.specs.declared.marks.Step.{Step}
-use Rattle.log_courses.specs.declared.marks.Step.TheVariants.{Announcement, Window, Again, Hold, End}
+use Rattle.log_reports.specs.declared.marks.Place.{Place}
+use Rattle.log_reports.specs.declared.marks.Detail.{Detail}
+use Rattle.log_reports.specs.declared.marks.Detail.TheVariants.{Ends, Frames}
+use Rattle.log_reports.specs.declared.marks.Mark.{Mark}
+use Rattle.log_reports.specs.declared.marks.Step.{Step}
+use Rattle.log_reports.specs.declared.marks.Step.TheVariants.{Announcement, Window, Again, Hold, End}
 
 -- what a frame does, its number in the log and its time
 abbrev pub plain_members : (kind : List ℕ) → Place → List Named

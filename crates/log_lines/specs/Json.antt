@@ -9,8 +9,8 @@ use Rattle.text_digits.specs.Digits.{unspaced}
 use Rattle.log_fields.specs.Iface.{name_of}
 use Rattle.log_fields.specs.declared.iface.Iface.{Iface}
 use Rattle.log_courses.specs.declared.course.Course.{Course}
-use Rattle.log_courses.specs.declared.course.Place.{Place}
-use Rattle.log_courses.specs.declared.marks.Detail.{Detail}
+use Rattle.log_reports.specs.declared.marks.Place.{Place}
+use Rattle.log_reports.specs.declared.marks.Detail.{Detail}
 use Rattle.log_reports.specs.declared.key.Key.{Key}
 use Rattle.log_reports.specs.declared.told.Cause.{Cause}
 use Rattle.log_reports.specs.Causes.{cause_words}

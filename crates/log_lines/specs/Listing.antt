@@ -2,9 +2,9 @@
 use Rattle.std.specs.Prelude.{ℕ, List, ◌++◌, flat_map, codes}
 use Rattle.std.specs.Fmt.{decimal}
 use Rattle.log_fields.specs.Time.{time_text}
-use Rattle.log_courses.specs.declared.marks.Mark.{Mark}
-use Rattle.log_courses.specs.declared.marks.Step.{Step}
-use Rattle.log_courses.specs.declared.marks.Step.TheVariants.{Announcement, Window, Again, Hold, End}
+use Rattle.log_reports.specs.declared.marks.Mark.{Mark}
+use Rattle.log_reports.specs.declared.marks.Step.{Step}
+use Rattle.log_reports.specs.declared.marks.Step.TheVariants.{Announcement, Window, Again, Hold, End}
 
 -- packets from one to another
 abbrev pub range_text : List ℕ → (first last : ℕ) → List ℕ

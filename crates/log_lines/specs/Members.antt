@@ -10,7 +10,7 @@ use Rattle.log_lines.specs.declared.members.Member.{Member}
 use Rattle.log_lines.specs.declared.members.Member.TheVariants as members
 use Rattle.log_fields.specs.Iface.{name_of}
 use Rattle.log_reports.specs.Causes.{cause_words}
-use Rattle.log_summary.specs.Rows.{mean_of, share_of}
+use Rattle.log_courses.specs.Rows.{mean_of, share_of}
 use Rattle.serde_json.specs.Written.{compact_text}
 use Rattle.text_digits.specs.Digits.{unspaced}
 

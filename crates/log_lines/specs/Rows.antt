@@ -7,9 +7,9 @@ use Rattle.log_lines.specs.declared.rows.Form.{Form}
 use Rattle.log_lines.specs.declared.rows.Form.TheVariants.{Table, Objects}
 use Rattle.serde_json.specs.Data.{string}
 use Rattle.log_fields.specs.Iface.{name_of}
-use Rattle.log_summary.specs.Rows.{Summary, rows_of, aborts_of, losses_of, frames_on, mean_of, share_of}
-use Rattle.log_summary.specs.declared.row.ReasonCount.{ReasonCount}
-use Rattle.log_summary.specs.declared.row.Row.{Row}
+use Rattle.log_courses.specs.Rows.{Summary, rows_of, aborts_of, losses_of, frames_on, mean_of, share_of}
+use Rattle.log_courses.specs.declared.row.ReasonCount.{ReasonCount}
+use Rattle.log_courses.specs.declared.row.Row.{Row}
 
 abbrev pub last_members : Row → List ReasonCount → (all : ℕ) → List Named
 last_members r lost all =

@@ -3,9 +3,9 @@ use Rattle.std.specs.Prelude.{ℕ, ◌-◌, List, ◌++◌, length, replicate, f
 use Rattle.std.specs.Fmt.{decimal}
 use Rattle.log_fields.specs.Iface.{name_of}
 use Rattle.log_fields.specs.declared.iface.Iface.{Iface}
-use Rattle.log_summary.specs.Rows.{mean_of, share_of}
-use Rattle.log_summary.specs.declared.row.ReasonCount.{ReasonCount}
-use Rattle.log_summary.specs.declared.row.Row.{Row}
+use Rattle.log_courses.specs.Rows.{mean_of, share_of}
+use Rattle.log_courses.specs.declared.row.ReasonCount.{ReasonCount}
+use Rattle.log_courses.specs.declared.row.Row.{Row}
 use Rattle.log_lines.specs.Counts.{count_line}
 use Rattle.log_lines.specs.Parts.{address_text, pgn_text, column}
 

@@ -6,8 +6,8 @@ ghost use Rattle.log_lines.specs.Counts.{named_count, count_text, count_line, co
 use crate::lists::{Listed, put_list};
 use crate::parts::{Part, Printed, put_each};
 use itoa::Buffer;
+use log_courses::{Reason, ReasonCount};
 use log_reports::cause_words;
-use log_summary::{Reason, ReasonCount};
 use std::alloc::AllocError;
 
 /// A count, as a member of an object.

@@ -6,7 +6,7 @@ ghost use Rattle.log_lines.specs.Frames.{plain_members, ranged_members, mark_tex
 
 use crate::lists::{Listed, put_list};
 use crate::parts::{Part, put_each};
-use log_courses::{Detail, Mark, Place, Step};
+use log_reports::{Detail, Mark, Place, Step};
 use std::alloc::AllocError;
 
 /// What a frame does, its number and its time.

@@ -3,7 +3,7 @@ ghost use Rattle.std.specs.Prelude.{◌≡◌, ◌++◌, OnOk};
 ghost use Rattle.log_lines.specs.Listing.{range_text, step_text, mark_line, mark_lines};
 
 use crate::parts::{Part, Printed, put_each};
-use log_courses::{Mark, Step};
+use log_reports::{Mark, Step};
 use std::alloc::AllocError;
 use text_digits::put_text;
 

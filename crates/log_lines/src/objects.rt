@@ -6,9 +6,9 @@ ghost use Rattle.log_lines.specs.Json.{given_members, aborted_members, lost_memb
 use crate::members::Member;
 use crate::parts::put_each;
 use bus_frame::Frame;
-use log_courses::{Course, Detail};
+use log_courses::Course;
 use log_fields::Iface;
-use log_reports::{Cause, Key, Line, Told};
+use log_reports::{Cause, Detail, Key, Line, Told};
 use pgn_ids::{Address, Pgn, read_id};
 use std::alloc::AllocError;
 

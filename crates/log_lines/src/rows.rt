@@ -6,8 +6,8 @@ ghost use Rattle.log_lines.specs.Table.{name_text, way_text, given_text, rest_te
 
 use crate::members::Member;
 use crate::parts::{Part, put_blanks, put_each};
+use log_courses::{ReasonCount, Row, Summary};
 use log_fields::Iface;
-use log_summary::{ReasonCount, Row, Summary};
 use std::alloc::{AllocError, Global};
 use text_digits::put_text;
 

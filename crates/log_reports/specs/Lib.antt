@@ -10,3 +10,4 @@ pub mod Fields
 pub mod Naming
 pub mod Texts
 pub mod Groups
+pub mod Marks

@@ -1,6 +1,6 @@
 use Rattle.std.proofs.Common.{sym, ◌∙◌}
 use Rattle.log_courses.specs.Course.{longer, noted}
-use Rattle.log_courses.specs.declared.marks.Step.TheVariants.{Announcement}
+use Rattle.log_reports.specs.declared.marks.Step.TheVariants.{Announcement}
 use Rattle.log_courses.proofs.AtKey.{changed_there}
 use Rattle.log_courses.proofs.courses.announce_again.Goals as goal
 

@@ -1,6 +1,0 @@
-use Rattle.std.proofs.Common.{◌≡◌, take, flat_map}
-use Rattle.log_summary.specs.Rows.{lost_for}
-use Rattle.log_summary.proofs.row.Losses.list.Given as goal
-
-abbrev pub invariant-loop-cause : goal.invariant-loop-cause
-invariant-loop-cause l = l.found.items ≡ flat_map (lost_for l.self) (take l.cause-index l.causes)
