@@ -17,11 +17,6 @@ pub(crate) fn same<T: PartialEq + Debug + Drop>(rt: &impl Abort, value: T, expec
     assert_eq!(rt; value, expected);
 }
 
-/// Ends the test if this doesn't hold of a frame with this identifier, and prints the identifier.
-pub(crate) fn holds_at(rt: &impl Abort, id: u32, fact: bool) {
-    assert!(rt; fact, "at {id:08X}");
-}
-
 /// The value that was made. Ends the test if it wasn't, and prints why.
 pub(crate) fn got<T, E: Debug + Drop>(rt: &impl Abort, made: Result<T, E>) -> T
     ensures { made ≡ Ok result }

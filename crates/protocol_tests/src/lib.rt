@@ -7,7 +7,7 @@ mod checks;
 #[cfg(test)]
 mod frame;
 #[cfg(test)]
-mod pgns;
+mod means;
 #[cfg(test)]
 mod session;
 #[cfg(test)]

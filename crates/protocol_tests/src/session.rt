@@ -1,10 +1,9 @@
 //! Tests of received messages, and of the table of their sessions, through the crates' public items.
 mod broadcasts;
 mod connections;
+mod exchanges;
 mod extended_connections;
 mod finished;
-pub(crate) mod frames;
 mod received;
 mod senders;
-mod sent_images;
 mod sessions;

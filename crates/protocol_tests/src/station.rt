@@ -1,5 +1,4 @@
 //! Tests of the lanes and the receivers of a station, and of a station, through what these crates show.
-mod frames;
 mod lanes;
 mod receivers;
 mod stations;

@@ -1,18 +1,12 @@
 //! A bus, step by step. The steps of a test are a table, which one function plays: a table needs no proof, and each call in a test does.
 use crate::checks::{got, holds, same};
-use bus_frame::{CanId, Frame};
+use crate::means::frame;
+use bus_frame::Frame;
 use bus_order::*;
-use std::alloc::{AllocError, Global};
+use std::alloc::Global;
 use std::process::Abort;
 
-// Calls that find no memory are made again, so that the tests pass whichever one allocation is refused.
-fn new_log(alloc: Global, stations: usize) -> Result<BusLog, AllocError> {
-    match BusLog::new(alloc, stations) {
-        Ok(log) => Ok(log),
-        Err(_) => BusLog::new(alloc, stations),
-    }
-}
-
+// Put again if no memory is found, since nothing has changed.
 fn put(log: &mut BusLog, frame: Frame) -> Result<(), PutError> {
     match log.put(frame) {
         Err(PutError::OutOfMemory) => log.put(frame),
@@ -20,17 +14,9 @@ fn put(log: &mut BusLog, frame: Frame) -> Result<(), PutError> {
     }
 }
 
-fn image_of(alloc: Global, log: &BusLog) -> Result<BusImage, AllocError> {
-    match log.image(alloc) {
-        Ok(image) => Ok(image),
-        Err(_) => log.image(alloc),
-    }
-}
-
 // The frame of a place, which has that number as its bytes.
 fn frame_of(rt: &impl Abort, place: u64) -> Frame {
-    let id = got(rt, CanId::new(0x1CEB_2335));
-    got(rt, Frame::new(id, &place.to_le_bytes()))
+    frame(rt, 0x1CEB_2335, &place.to_le_bytes())
 }
 
 fn some_frame(rt: &impl Abort, place: &Option<u64>) -> Option<Frame> {
@@ -163,7 +149,7 @@ const OF_A_FULL_BUS: [Step; 16] = [
 
 #[test]
 fn frames_are_kept_from_the_lowest_cursor_on(rt: HostRuntime) {
-    let mut log = got(&rt, new_log(rt.alloc(), 2));
+    let mut log = got(&rt, BusLog::new(rt.alloc(), 2));
     holds(&rt, log.stations() == 2 && log.is_empty());
     fill(&rt, &mut log);
     play(&rt, &mut log, &OF_A_FULL_BUS);
@@ -200,7 +186,7 @@ const FOR_ALL: [Step; 25] = [
 
 #[test]
 fn a_frame_that_all_take_comes_in_the_place_of_the_newest(rt: HostRuntime) {
-    let mut log = got(&rt, new_log(rt.alloc(), 2));
+    let mut log = got(&rt, BusLog::new(rt.alloc(), 2));
     play(&rt, &mut log, &FOR_ALL);
 }
 
@@ -226,7 +212,7 @@ const SEEN_AND_TAKEN: [Step; 17] = [
 
 #[test]
 fn a_station_sees_a_frame_and_takes_it(rt: HostRuntime) {
-    let mut log = got(&rt, new_log(rt.alloc(), 2));
+    let mut log = got(&rt, BusLog::new(rt.alloc(), 2));
     play(&rt, &mut log, &SEEN_AND_TAKEN);
 }
 
@@ -255,7 +241,7 @@ const REPEATED_AND_PASSED_OVER: [Step; 20] = [
 
 #[test]
 fn a_station_takes_repeats_and_passes_over(rt: HostRuntime) {
-    let mut log = got(&rt, new_log(rt.alloc(), 1));
+    let mut log = got(&rt, BusLog::new(rt.alloc(), 1));
     play(&rt, &mut log, &REPEATED_AND_PASSED_OVER);
 }
 
@@ -264,11 +250,11 @@ fn is_of(image: &BusImage, log: &BusLog) -> bool {
 }
 
 fn show(rt: &impl Abort, alloc: Global, log: &mut BusLog) {
-    let new = got(rt, image_of(alloc, log));
+    let new = got(rt, log.image(alloc));
     let is_of_new = is_of(&new, log);
     holds(rt, put(log, frame_of(rt, 1)).is_ok());
     same(rt, (is_of_new, is_of(&new, log)), (true, false));
-    let one = got(rt, image_of(alloc, log));
+    let one = got(rt, log.image(alloc));
     let is_of_one = is_of(&one, log);
     holds(rt, next(rt, log, 0) == Some(frame_of(rt, 1)));
     same(rt, (is_of_one, is_of(&one, log)), (true, false));
@@ -276,6 +262,6 @@ fn show(rt: &impl Abort, alloc: Global, log: &mut BusLog) {
 
 #[test]
 fn an_image_has_the_frames_and_the_cursors_of_its_bus(rt: HostRuntime) {
-    let mut log = got(&rt, new_log(rt.alloc(), 2));
+    let mut log = got(&rt, BusLog::new(rt.alloc(), 2));
     show(&rt, rt.alloc(), &mut log)
 }

@@ -1,21 +1,44 @@
-use crate::checks::{got, holds, holds_at, same};
+use crate::checks::{got, holds, same};
+use crate::means::pgn;
 use bus_frame::CanId;
 use pgn_ids::*;
 use std::process::Abort;
 
+// Numbers, and whether they are PGNs of the PDU1 format if they are PGNs.
+const NUMBERS: [(u32, Option<bool>); 4] = [
+    (0xEC21, None),
+    (0x4_0000, None),
+    (0xFECA, Some(false)),
+    (0xEA00, Some(true)),
+];
+
+fn is_number((raw, is_pdu1): &(u32, Option<bool>)) -> bool {
+    match Pgn::new(*raw) {
+        Ok(pgn) => {
+            pgn.raw() == *raw && Some(pgn.is_pdu1()) == *is_pdu1 && pgn.field().clean() == pgn
+        }
+        Err(BadPgn) => is_pdu1.is_none(),
+    }
+}
+
+// Fields of a frame, and the PGN of each if it is one.
+const FIELDS: [(u32, Option<u32>); 2] = [(0x4_0000, None), (0xEA35, Some(0xEA00))];
+
+fn is_field((raw, clean): &(u32, Option<u32>)) -> bool {
+    match WirePgn::new(*raw) {
+        Ok(field) => field.raw() == *raw && Some(field.clean().raw()) == *clean,
+        Err(BadPgn) => clean.is_none(),
+    }
+}
+
 #[test]
 fn numbers_and_fields(rt: HostRuntime) {
-    holds(&rt, Pgn::new(0xEC21) == Err(BadPgn));
-    holds(&rt, Pgn::new(0x4_0000) == Err(BadPgn));
-    holds(&rt, WirePgn::new(0x4_0000) == Err(BadPgn));
-    let diagnostics = got(&rt, Pgn::new(0xFECA));
-    same(&rt, diagnostics.raw(), 0xFECA);
-    holds(&rt, !diagnostics.is_pdu1());
-    let request = got(&rt, WirePgn::new(0xEA35));
-    same(&rt, request.raw(), 0xEA35);
-    holds(&rt, request.clean() == got(&rt, Pgn::new(0xEA00)));
-    holds(&rt, request.clean().is_pdu1());
-    holds(&rt, diagnostics.field().clean() == diagnostics);
+    for (place, row) in NUMBERS.iter().enumerate() {
+        same(&rt, (place, is_number(row)), (place, true));
+    }
+    for (place, row) in FIELDS.iter().enumerate() {
+        same(&rt, (place, is_field(row)), (place, true));
+    }
 }
 
 // Identifiers of the standard's transport frames and of a PDU2 frame, priority, PGN, destination and source.
@@ -27,33 +50,31 @@ const IDENTIFIERS: [(u32, u8, u32, u8, u8); 5] = [
     (0x0CF0_0400, 3, 0xF004, 0xFF, 0x00),
 ];
 
-fn is_read(rt: &impl Abort, (id, priority, pgn, to, from): (u32, u8, u32, u8, u8)) {
+fn is_read(rt: &impl Abort, (id, priority, number, to, from): &(u32, u8, u32, u8, u8)) -> bool {
     let meaning = IdMeaning {
-        priority,
-        pgn: got(rt, Pgn::new(pgn)),
-        to: Address(to),
-        from: Address(from),
+        priority: *priority,
+        pgn: pgn(rt, *number),
+        to: Address(*to),
+        from: Address(*from),
     };
-    holds_at(rt, id, read_id(got(rt, CanId::new(id))) == meaning);
+    read_id(got(rt, CanId::new(*id))) == meaning
 }
 
 fn are_written(rt: &impl Abort) {
-    holds(
+    let of_tp = got(rt, Pgn::new(0xEC00));
+    let tp = id_of(7, of_tp, Address(0x35), Address(0x21));
+    let diagnostics = id_of(6, pgn(rt, 0xFECA), Address::GLOBAL, Address(0));
+    same(
         rt,
-        id_of(7, got(rt, Pgn::new(0xEC00)), Address(0x35), Address(0x21))
-            == got(rt, CanId::new(0x1CEC_3521)),
-    );
-    let diagnostics = got(rt, Pgn::new(0xFECA));
-    holds(
-        rt,
-        id_of(6, diagnostics, Address::GLOBAL, Address(0)) == got(rt, CanId::new(0x18FE_CA00)),
+        [tp.raw(), diagnostics.raw()],
+        [0x1CEC_3521, 0x18FE_CA00],
     );
 }
 
 #[test]
 fn identifiers_by_pgn_and_addresses(rt: HostRuntime) {
-    for row in &IDENTIFIERS {
-        is_read(&rt, *row);
+    for (place, row) in IDENTIFIERS.iter().enumerate() {
+        same(&rt, (place, is_read(&rt, row)), (place, true));
     }
     are_written(&rt);
     holds(&rt, Address(0).is_one() && Address(253).is_one());

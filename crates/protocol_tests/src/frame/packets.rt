@@ -34,17 +34,18 @@ fn last_packet_is_filled_up(rt: HostRuntime) {
     same(&rt, packet(&MESSAGE, 2), LAST);
 }
 
-// Calls whose result alone a test looks at: their contracts are not carried through it.
-fn new_join(alloc: Global, size: u32) -> Join {
-    Join::new(alloc, size)
-}
-
-fn make_room(rt: &impl Abort, join: &mut Join, packets: u32) {
-    got(rt, join.make_room(packets));
-}
-
-fn puts(rt: &impl Abort, join: &mut Join, number: u32, bytes: [u8; 7]) {
-    got(rt, join.put(number, bytes));
+/// What is done with a join, or is seen of it.
+enum Step {
+    /// A packet is put by its number, or isn't.
+    Put(u32, [u8; 7], Result<(), PutError>),
+    /// A packet that isn't the last is put where there is room.
+    PutInner([u8; 7]),
+    /// Room is made for so many packets.
+    MakeRoom(u32),
+    /// It holds so many bytes, has room for so many packets, and awaits this one.
+    Has(usize, u32, u32),
+    /// It is of so many bytes and holds so many, and doesn't await the last packet, nor none.
+    Begun(u32, usize),
 }
 
 fn puts_inner(rt: &impl Abort, join: &mut Join, bytes: &[u8; 7]) {
@@ -54,9 +55,37 @@ fn puts_inner(rt: &impl Abort, join: &mut Join, bytes: &[u8; 7]) {
     join.put_inner(bytes);
 }
 
-// It isn't the next packet.
-fn is_wrong(rt: &impl Abort, join: &mut Join, number: u32, bytes: [u8; 7]) {
-    same(rt, join.put(number, bytes), Err(PutError::WrongPacket));
+// Whether a step does, or shows, what it says.
+fn is_so(rt: &impl Abort, join: &mut Join, step: &Step) -> bool {
+    match step {
+        Step::Put(number, bytes, answer) => join.put(*number, *bytes) == *answer,
+        Step::PutInner(bytes) => {
+            puts_inner(rt, join, bytes);
+            true
+        }
+        Step::MakeRoom(packets) => join.make_room(*packets).is_ok(),
+        Step::Has(capacity, room, next) => {
+            (join.capacity(), join.room(), join.next()) == (*capacity, *room, *next)
+        }
+        Step::Begun(size, capacity) => {
+            (join.size(), join.capacity()) == (*size, *capacity)
+                && (join.is_complete(), join.wants_last()) == (false, false)
+        }
+    }
+}
+
+// Ends the test at the first step that isn't so, and prints its place in the table.
+fn play(rt: &impl Abort, join: &mut Join, steps: &[Step]) {
+    for (place, step) in steps.iter().enumerate() {
+        same(rt, (place, is_so(rt, join, step)), (place, true));
+    }
+}
+
+// A new join of so many bytes does all this.
+fn begun(rt: &impl Abort, alloc: Global, size: u32, steps: &[Step]) -> Join {
+    let mut join = Join::new(alloc, size);
+    play(rt, &mut join, steps);
+    join
 }
 
 // Only one packet of two was put.
@@ -73,88 +102,69 @@ fn is_finished(rt: &impl Abort, join: Join) {
     same(rt, bytes.as_slice(), MESSAGE.as_slice());
 }
 
-// It holds so many bytes, has room for so many packets, and awaits this one.
-fn has_room(rt: &impl Abort, join: &Join, capacity: usize, room: u32, next: u32) {
-    same(
-        rt,
-        (join.capacity(), join.room(), join.next()),
-        (capacity, room, next),
-    );
-}
+const FIRST_OF_TWO: [Step; 2] = [
+    Step::Put(2, LAST, Err(PutError::WrongPacket)),
+    Step::Put(1, FIRST, Ok(())),
+];
 
-fn put_first(rt: &impl Abort, join: &mut Join) {
-    is_wrong(rt, join, 2, LAST);
-    puts(rt, join, 1, FIRST);
-}
-
-fn put_last(rt: &impl Abort, join: &mut Join) {
-    is_wrong(rt, join, 1, FIRST);
-    puts(rt, join, 2, LAST);
-    is_wrong(rt, join, 3, [0; 7]);
-}
+const LAST_OF_TWO: [Step; 3] = [
+    Step::Put(1, FIRST, Err(PutError::WrongPacket)),
+    Step::Put(2, LAST, Ok(())),
+    Step::Put(3, [0; 7], Err(PutError::WrongPacket)),
+];
 
 #[test]
 fn nine_bytes_come_in_two_packets(rt: HostRuntime) {
-    let mut join = new_join(rt.alloc(), 9);
-    put_first(&rt, &mut join);
+    let join = begun(&rt, rt.alloc(), 9, &FIRST_OF_TWO);
     let mut join = is_unfinished(&rt, join);
-    put_last(&rt, &mut join);
+    play(&rt, &mut join, &LAST_OF_TWO);
     is_finished(&rt, join);
 }
 
-fn put_where_there_is_room(rt: &impl Abort, join: &mut Join) {
-    make_room(rt, join, 2);
-    puts_inner(rt, join, &FIRST);
-    has_room(rt, join, 9, 1, 2);
-    puts(rt, join, 2, LAST);
-}
+const WHERE_THERE_IS_ROOM: [Step; 4] = [
+    Step::MakeRoom(2),
+    Step::PutInner(FIRST),
+    Step::Has(9, 1, 2),
+    Step::Put(2, LAST, Ok(())),
+];
 
 #[test]
 fn a_packet_is_put_where_there_is_room(rt: HostRuntime) {
-    let mut join = new_join(rt.alloc(), 9);
-    put_where_there_is_room(&rt, &mut join);
-    is_finished(&rt, join);
+    is_finished(&rt, begun(&rt, rt.alloc(), 9, &WHERE_THERE_IS_ROOM));
 }
 
-fn make_a_block(rt: &impl Abort, join: &mut Join) {
-    has_room(rt, join, 0, 0, 1);
-    make_room(rt, join, 64);
-    has_room(rt, join, 448, 64, 1);
-    puts(rt, join, 1, [0; 7]);
-    has_room(rt, join, 448, 63, 2);
-}
+const BLOCK: [Step; 5] = [
+    Step::Has(0, 0, 1),
+    Step::MakeRoom(64),
+    Step::Has(448, 64, 1),
+    Step::Put(1, [0; 7], Ok(())),
+    Step::Has(448, 63, 2),
+];
 
 // No more room than for the whole message.
-fn make_the_rest(rt: &impl Abort, join: &mut Join) {
-    make_room(rt, join, 64);
-    same(rt, (join.capacity(), join.size()), (9, 9));
-    same(rt, (join.is_complete(), join.wants_last()), (false, false));
-}
+const REST: [Step; 2] = [Step::MakeRoom(64), Step::Begun(9, 9)];
 
 #[test]
 fn room_is_one_block(rt: HostRuntime) {
-    let mut largest = new_join(rt.alloc(), 117_440_505);
-    make_a_block(&rt, &mut largest);
-    let mut small = new_join(rt.alloc(), 9);
-    make_the_rest(&rt, &mut small);
+    let _largest = begun(&rt, rt.alloc(), 117_440_505, &BLOCK);
+    let _small = begun(&rt, rt.alloc(), 9, &REST);
 }
 
-fn is_of(image: &Join, join: &Join) -> bool {
-    image.is_of(join)
-}
+const ROOM_FOR_TWO: [Step; 1] = [Step::MakeRoom(2)];
+
+const ONE_PUT: [Step; 1] = [Step::PutInner(FIRST)];
 
 fn show(rt: &impl Abort, alloc: Global, join: &mut Join) {
-    make_room(rt, join, 2);
     let empty = got(rt, join.image(alloc));
-    holds(rt, is_of(&empty, join));
-    puts_inner(rt, join, &FIRST);
-    holds(rt, !is_of(&empty, join));
+    let before = empty.is_of(join);
+    play(rt, join, &ONE_PUT);
+    same(rt, (before, empty.is_of(join)), (true, false));
     let one = got(rt, join.image(alloc));
-    holds(rt, is_of(&one, join) && one.capacity() == 9);
+    holds(rt, one.is_of(join) && one.capacity() == 9);
 }
 
 #[test]
 fn an_image_is_of_a_join_as_it_was(rt: HostRuntime) {
-    let mut join = new_join(rt.alloc(), 9);
+    let mut join = begun(&rt, rt.alloc(), 9, &ROOM_FOR_TWO);
     show(&rt, rt.alloc(), &mut join);
 }

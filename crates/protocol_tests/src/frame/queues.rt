@@ -1,20 +1,30 @@
-use crate::checks::{got, holds};
-use bus_frame::{CanId, Frame};
-use std::alloc::{AllocError, Global};
+//! A queue of frames to be sent, step by step. The steps of a test are a table, which one function plays: a table needs no proof, and each call
+//! in a test does. A test ends if memory is refused.
+use crate::checks::{got, holds, same};
+use crate::means::frame;
+use bus_frame::Frame;
+use std::alloc::Global;
 use std::process::Abort;
 use tx_queue::*;
 
-// Made again if no memory is found, so that the test passes whichever one allocation is refused.
-fn new_queue(alloc: Global) -> Result<TxQueue, AllocError> {
-    match TxQueue::new(alloc) {
-        Ok(queue) => Ok(queue),
-        Err(_) => TxQueue::new(alloc),
-    }
+/// What is done with a queue, or is seen of it. A frame is named by its number.
+enum Step {
+    /// A frame is pushed, or the queue is full.
+    Push(u8, Result<(), TxFull>),
+    /// The frames below this one are pushed, from 0 on.
+    PushBelow(u8),
+    /// A frame is pushed where there is a free place.
+    PushFree(u8),
+    /// The frame in front leaves, if there is one.
+    Pop(Option<u8>),
+    /// The frames below this one leave in order, from 0 on.
+    PopBelow(u8),
+    /// How many frames wait.
+    Wait(usize),
 }
 
-// Calls whose result alone a test looks at: their contracts are not carried through it.
-fn push(queue: &mut TxQueue, frame: Frame) -> Result<(), TxFull> {
-    queue.push(frame)
+fn frame_of(rt: &impl Abort, number: u8) -> Frame {
+    frame(rt, 0x1CEB_2335, &[number])
 }
 
 fn push_free(rt: &impl Abort, queue: &mut TxQueue, frame: Frame) {
@@ -22,78 +32,101 @@ fn push_free(rt: &impl Abort, queue: &mut TxQueue, frame: Frame) {
     queue.push_free(frame)
 }
 
-fn pop(queue: &mut TxQueue) -> Option<Frame> {
-    queue.pop()
-}
-
-fn front(queue: &TxQueue) -> Option<Frame> {
-    queue.front()
-}
-
-fn frame_of(rt: &impl Abort, number: u8) -> Frame {
-    let id = got(rt, CanId::new(0x1CEB_2335));
-    got(rt, Frame::new(id, &[number]))
-}
-
-// The steps of a test are a function of their own, which owns nothing. A step that can end a test drops what the test owns, and each such
-// place takes its part of the proof.
-fn fill(rt: &impl Abort, queue: &mut TxQueue) {
-    holds(rt, queue.is_empty() && queue.free() == 64);
-    holds(rt, pop(queue).is_none());
-    for number in 0..64u8 {
-        holds(rt, push(queue, frame_of(rt, number)).is_ok());
+fn pushes_below(rt: &impl Abort, queue: &mut TxQueue, end: u8) -> bool {
+    for number in 0..end {
+        if queue.push(frame_of(rt, number)).is_err() {
+            return false;
+        }
     }
-    holds(rt, queue.len() == 64 && queue.free() == 0);
-    holds(rt, push(queue, frame_of(rt, 64)) == Err(TxFull));
+    true
 }
 
-fn empty(rt: &impl Abort, queue: &mut TxQueue) {
-    for number in 0..64u8 {
-        let expected = Some(frame_of(rt, number));
-        holds(rt, front(queue) == expected);
-        holds(rt, pop(queue) == expected);
-    }
-    holds(rt, front(queue).is_none() && queue.is_empty());
-    let expected = frame_of(rt, 65);
-    push_free(rt, queue, expected);
-    holds(rt, pop(queue) == Some(expected));
+fn pops(rt: &impl Abort, queue: &mut TxQueue, number: Option<u8>) -> bool {
+    let expected = match number {
+        Some(number) => Some(frame_of(rt, number)),
+        None => None,
+    };
+    queue.front() == expected && queue.pop() == expected
 }
+
+fn pops_below(rt: &impl Abort, queue: &mut TxQueue, end: u8) -> bool {
+    for number in 0..end {
+        if !pops(rt, queue, Some(number)) {
+            return false;
+        }
+    }
+    true
+}
+
+// Whether a step does, or shows, what it says.
+fn is_so(rt: &impl Abort, queue: &mut TxQueue, step: &Step) -> bool {
+    match step {
+        Step::Push(number, answer) => queue.push(frame_of(rt, *number)) == *answer,
+        Step::PushBelow(end) => pushes_below(rt, queue, *end),
+        Step::PushFree(number) => {
+            push_free(rt, queue, frame_of(rt, *number));
+            true
+        }
+        Step::Pop(number) => pops(rt, queue, *number),
+        Step::PopBelow(end) => pops_below(rt, queue, *end),
+        Step::Wait(frames) => {
+            let is_empty = *frames == 0;
+            (queue.len(), queue.is_empty()) == (*frames, is_empty)
+                && queue.free().checked_add(*frames) == Some(64)
+        }
+    }
+}
+
+// Ends the test at the first step that isn't so, and prints its place in the table.
+fn play(rt: &impl Abort, queue: &mut TxQueue, steps: &[Step]) {
+    for (place, step) in steps.iter().enumerate() {
+        same(rt, (place, is_so(rt, queue, step)), (place, true));
+    }
+}
+
+const SIXTY_FOUR: [Step; 9] = [
+    Step::Wait(0),
+    Step::Pop(None),
+    Step::PushBelow(64),
+    Step::Wait(64),
+    Step::Push(64, Err(TxFull)),
+    Step::PopBelow(64),
+    Step::Wait(0),
+    Step::PushFree(65),
+    Step::Pop(Some(65)),
+];
 
 #[test]
 fn sixty_four_frames_leave_in_order(rt: HostRuntime) {
-    let mut queue = got(&rt, new_queue(rt.alloc()));
-    fill(&rt, &mut queue);
-    empty(&rt, &mut queue)
+    let mut queue = got(&rt, TxQueue::new(rt.alloc()));
+    play(&rt, &mut queue, &SIXTY_FOUR);
 }
 
-// Made again if no memory is found.
-fn image_of(alloc: Global, queue: &TxQueue) -> Result<QueueImage, AllocError> {
-    match queue.image(alloc) {
-        Ok(image) => Ok(image),
-        Err(_) => queue.image(alloc),
-    }
-}
+const ONE: [Step; 1] = [Step::Push(1, Ok(()))];
 
-fn is_of(image: &QueueImage, queue: &TxQueue) -> bool {
-    image.is_of(queue)
+const TWO: [Step; 1] = [Step::Push(2, Ok(()))];
+
+// As many frames as there were, but one of them is different.
+const OTHER: [Step; 1] = [Step::Pop(Some(1))];
+
+// The image that the queue had until these steps.
+fn until(rt: &impl Abort, alloc: Global, queue: &mut TxQueue, steps: &[Step]) -> QueueImage {
+    let image = got(rt, queue.image(alloc));
+    let before = image.is_of(queue);
+    play(rt, queue, steps);
+    same(rt, (before, image.is_of(queue)), (true, false));
+    image
 }
 
 fn show(rt: &impl Abort, alloc: Global, queue: &mut TxQueue) {
-    let empty = got(rt, image_of(alloc, queue));
-    holds(rt, is_of(&empty, queue));
-    holds(rt, push(queue, frame_of(rt, 1)).is_ok());
-    holds(rt, !is_of(&empty, queue));
-    let one = got(rt, image_of(alloc, queue));
-    holds(rt, is_of(&one, queue));
-    holds(rt, push(queue, frame_of(rt, 2)).is_ok());
-    holds(rt, !is_of(&one, queue));
-    holds(rt, pop(queue) == Some(frame_of(rt, 1)));
-    // As many frames as then, but one of them is different.
-    holds(rt, !is_of(&one, queue));
+    let _empty = until(rt, alloc, queue, &ONE);
+    let one = until(rt, alloc, queue, &TWO);
+    play(rt, queue, &OTHER);
+    holds(rt, !one.is_of(queue));
 }
 
 #[test]
 fn an_image_has_the_frames_of_its_queue(rt: HostRuntime) {
-    let mut queue = got(&rt, new_queue(rt.alloc()));
+    let mut queue = got(&rt, TxQueue::new(rt.alloc()));
     show(&rt, rt.alloc(), &mut queue)
 }

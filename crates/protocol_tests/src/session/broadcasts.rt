@@ -1,8 +1,10 @@
+//! Messages to all of node 21, which has nine bytes to send or is received. What is done with a receiver is a table, which one function plays:
+//! a table needs no proof, and each call in a test does.
 ghost use Rattle.std.specs.Prelude.{◌≡◌};
 ghost use Rattle.bam_session.specs.declared.outgoing.BamPumped.TheVariants as BamPumped;
 
 use crate::checks::{got, holds, same};
-use crate::session::frames::{Packet, frame, pgn, shows, wire_pgn};
+use crate::means::{FECA, FIRST, LAST, Packet, Shown, is_frame, pgn, wire_pgn};
 use bam_session::*;
 use bus_frame::Frame;
 use pgn_ids::Address;
@@ -16,26 +18,17 @@ const SOURCE: Address = Address(0x21);
 
 const M9: [u8; 9] = [1, 2, 3, 4, 5, 6, 7, 8, 9];
 
-const FIRST: Packet = Packet {
-    kind: Kind::Tp,
-    sequence: 1,
-    bytes: [1, 2, 3, 4, 5, 6, 7],
-};
+const BAM: Shown = (0x1CEC_FF21, [0x20, 9, 0, 2, 0xFF, 0xCA, 0xFE, 0]);
 
-const LAST_BYTES: [u8; 7] = [8, 9, 0xFF, 0xFF, 0xFF, 0xFF, 0xFF];
+const BAM_OF_1785: Shown = (0x1CEC_FF21, [0x20, 0xF9, 6, 0xFF, 0xFF, 0x35, 0xF0, 1]);
 
-const LAST: Packet = Packet {
-    kind: Kind::Tp,
-    sequence: 2,
-    bytes: LAST_BYTES,
-};
+const FIRST_FRAME: Shown = (0x1CEB_FF21, [1, 1, 2, 3, 4, 5, 6, 7]);
 
-// A packet past the last one.
-const PAST: Packet = Packet {
-    kind: Kind::Tp,
-    sequence: 3,
-    bytes: [8, 9, 0xFF, 0xFF, 0xFF, 0xFF, 0xFF],
-};
+const LAST_FRAME: Shown = (0x1CEB_FF21, [2, 8, 9, 0xFF, 0xFF, 0xFF, 0xFF, 0xFF]);
+
+fn shows(rt: &impl Abort, frame: Frame, shown: Shown) {
+    holds(rt, is_frame(&frame, &shown));
+}
 
 fn goes_on(rt: &impl Abort, pumped: BamPumped) -> (BamOut, Frame)
     ensures { pumped ≡ BamPumped.On result.0 result.1 }
@@ -62,6 +55,86 @@ fn ends(rt: &impl Abort, pumped: BamPumped) -> Frame {
     }
 }
 
+// It is due after 50 ticks, of which so many are missing.
+fn falls_due(rt: &impl Abort, out: &BamOut) {
+    same(rt, (out.is_due(49), out.is_due(50)), (false, true));
+    let missing = (out.missing(0), out.missing(49), out.missing(51));
+    same(rt, missing, (50, 1, 0));
+}
+
+#[test]
+fn nine_bytes_are_sent(rt: HostRuntime) {
+    let (out, announcement) = BamOut::begin(SOURCE, pgn(&rt, FECA), 9, 0);
+    shows(&rt, announcement, BAM);
+    falls_due(&rt, &out);
+    let out = waits(&rt, out.pump(&M9, 49));
+    let (out, first) = goes_on(&rt, out.pump(&M9, 50));
+    shows(&rt, first, FIRST_FRAME);
+    let out = waits(&rt, out.pump(&M9, 99));
+    shows(&rt, ends(&rt, out.pump(&M9, 100)), LAST_FRAME);
+}
+
+fn is_packet(taken: &Option<BamPacket>, packet: Shown, is_last: bool) -> bool {
+    match taken {
+        Some(taken) => is_frame(&taken.frame, &packet) && taken.is_last == is_last,
+        None => false,
+    }
+}
+
+// An image is that of the message until its next packet.
+#[test]
+fn packets_are_sent_where_the_state_stands(rt: HostRuntime) {
+    let (mut out, _announcement) = BamOut::begin(SOURCE, pgn(&rt, FECA), 9, 0);
+    let begun = out.image();
+    let early = out.take_packet(&M9, 49);
+    same(&rt, (early.is_some(), begun.is_of(&out)), (false, true));
+    let first = out.take_packet(&M9, 50);
+    holds(&rt, is_packet(&first, FIRST_FRAME, false));
+    same(&rt, (begun.is_of(&out), out.missing(60)), (false, 40));
+    holds(&rt, out.image().is_of(&out));
+    let last = out.take_packet(&M9, 100);
+    holds(&rt, is_packet(&last, LAST_FRAME, true));
+    out.cancel();
+}
+
+#[test]
+fn the_longest_is_announced(rt: HostRuntime) {
+    let (out, announcement) = BamOut::begin(SOURCE, pgn(&rt, 0x1_F035), 1785, 0);
+    out.cancel();
+    shows(&rt, announcement, BAM_OF_1785);
+}
+
+/// What is done with a receiver of the nine bytes, which took the BAM at tick 0.
+enum Step {
+    /// A packet is taken by value at this tick, and more are awaited.
+    On(Packet, u64),
+    /// A packet is taken in place at this tick, which leaves this to do.
+    Take(Packet, u64, BamLeft),
+    /// It is due at this tick, and not at the one before.
+    Due(u64),
+    /// Whether a packet would complete the message.
+    Complete(Packet, bool),
+}
+
+/// How it ends.
+enum End {
+    /// A packet is taken by value at this tick, and completes the nine bytes.
+    CompleteByValue(Packet, u64),
+    /// The same in place.
+    Complete(Packet, u64),
+    /// A packet is taken by value, which drops it.
+    Drop(Packet),
+    Expire,
+    Close,
+    Overrun,
+}
+
+fn receiver(rt: &impl Abort, alloc: Global) -> BamIn {
+    let mut join = Join::new(alloc, 9);
+    got(rt, join.make_room(2));
+    BamIn::begin(SOURCE, wire_pgn(rt, FECA), join, 0)
+}
+
 fn awaits(rt: &impl Abort, stepped: BamStepped) -> BamIn {
     match stepped {
         BamStepped::On(state) => state,
@@ -69,145 +142,117 @@ fn awaits(rt: &impl Abort, stepped: BamStepped) -> BamIn {
     }
 }
 
-fn is_complete(rt: &impl Abort, stepped: BamStepped) {
+// What a step leaves of the receiver, and whether it does, or shows, what it says.
+fn next(rt: &impl Abort, mut state: BamIn, step: &Step) -> (BamIn, bool) {
+    let so = match step {
+        Step::On(packet, now) => return (awaits(rt, state.step(&packet.wire(), *now)), true),
+        Step::Take(packet, now, left) => state.take(&packet.wire(), *now) == *left,
+        Step::Due(now) => state.is_due(*now) && !state.is_due(now.saturating_sub(1)),
+        Step::Complete(packet, completes) => state.completes(&packet.wire()) == *completes,
+    };
+    (state, so)
+}
+
+fn is_complete(rt: &impl Abort, stepped: BamStepped) -> bool {
     match stepped {
-        BamStepped::Complete(bytes) => same(rt, bytes.as_slice(), M9.as_slice()),
+        BamStepped::Complete(bytes) => bytes.as_slice() == M9.as_slice(),
         _ => panic!(rt; "not complete"),
     }
 }
 
-fn is_dropped(rt: &impl Abort, stepped: BamStepped) {
+fn is_dropped(rt: &impl Abort, stepped: BamStepped) -> bool {
     match stepped {
-        BamStepped::Dropped => {}
+        BamStepped::Dropped => true,
         _ => panic!(rt; "not dropped"),
     }
 }
 
-// A receiver of the nine bytes that took the BAM at tick 0.
-fn receiver(rt: &impl Abort, alloc: Global) -> BamIn {
-    let mut join = Join::new(alloc, 9);
-    got(rt, join.make_room(2));
-    BamIn::begin(SOURCE, wire_pgn(rt, 0xFECA), join, 0)
-}
-
-// It is due at this tick, and not at the one before.
-fn falls_due(rt: &impl Abort, state: &BamIn, now: u64) {
-    same(
-        rt,
-        (state.is_due(now.saturating_sub(1)), state.is_due(now)),
-        (false, true),
-    );
-}
-
-#[test]
-fn nine_bytes_are_sent(rt: HostRuntime) {
-    let (out, queued) = BamOut::begin(SOURCE, pgn(&rt, 0xFECA), 9, 0);
-    shows(
-        &rt,
-        queued,
-        0x1CEC_FF21,
-        [0x20, 9, 0, 2, 0xFF, 0xCA, 0xFE, 0],
-    );
-    same(&rt, (out.is_due(49), out.is_due(50)), (false, true));
-    same(
-        &rt,
-        [out.missing(0), out.missing(49), out.missing(51)],
-        [50, 1, 0],
-    );
-    let out = waits(&rt, out.pump(&M9, 49));
-    let (out, queued) = goes_on(&rt, out.pump(&M9, 50));
-    shows(&rt, queued, 0x1CEB_FF21, [1, 1, 2, 3, 4, 5, 6, 7]);
-    let out = waits(&rt, out.pump(&M9, 99));
-    let queued = ends(&rt, out.pump(&M9, 100));
-    shows(
-        &rt,
-        queued,
-        0x1CEB_FF21,
-        [2, 8, 9, 0xFF, 0xFF, 0xFF, 0xFF, 0xFF],
-    );
-}
-
-#[test]
-fn packets_are_sent_where_the_state_stands(rt: HostRuntime) {
-    let (mut out, _announcement) = BamOut::begin(SOURCE, pgn(&rt, 0xFECA), 9, 0);
-    same(&rt, out.take_packet(&M9, 49), None);
-    let first = BamPacket {
-        frame: frame(&rt, 0x1CEB_FF21, [1, 1, 2, 3, 4, 5, 6, 7]),
-        is_last: false,
-    };
-    same(&rt, out.take_packet(&M9, 50), Some(first));
-    same(&rt, out.missing(60), 40);
-    let last = BamPacket {
-        frame: frame(&rt, 0x1CEB_FF21, [2, 8, 9, 0xFF, 0xFF, 0xFF, 0xFF, 0xFF]),
-        is_last: true,
-    };
-    same(&rt, out.take_packet(&M9, 100), Some(last));
-    out.cancel();
-}
-
-#[test]
-fn the_longest_is_announced(rt: HostRuntime) {
-    let (out, queued) = BamOut::begin(SOURCE, pgn(&rt, 0x1_F035), 1785, 0);
-    out.cancel();
-    shows(
-        &rt,
-        queued,
-        0x1CEC_FF21,
-        [0x20, 0xF9, 6, 0xFF, 0xFF, 0x35, 0xF0, 1],
-    );
-}
-
-#[test]
-fn nine_bytes_are_received(rt: HostRuntime) {
-    let state = receiver(&rt, rt.alloc());
-    falls_due(&rt, &state, T1);
-    same(
-        &rt,
-        (
-            state.completes(&FIRST.wire()),
-            state.completes(&LAST.wire()),
-        ),
-        (false, false),
-    );
-    let state = awaits(&rt, state.step(&FIRST.wire(), 100));
-    // A repeated packet is ignored, and T1 keeps running.
-    let state = awaits(&rt, state.step(&FIRST.wire(), 700));
-    falls_due(&rt, &state, 850);
-    same(
-        &rt,
-        (state.from(), state.pgn().raw(), state.size()),
-        (SOURCE, 0xFECA, 9),
-    );
-    holds(&rt, state.completes(&LAST.wire()));
-    is_complete(&rt, state.step(&LAST.wire(), 849));
-}
-
-// The last packet completes the message.
-fn completes(rt: &impl Abort, mut state: BamIn, now: u64) {
-    match state.take(&LAST.wire(), now) {
-        BamLeft::Message => same(rt, state.complete(&LAST_BYTES).as_slice(), M9.as_slice()),
+fn completes(rt: &impl Abort, mut state: BamIn, packet: &Packet, now: u64) -> bool {
+    match state.take(&packet.wire(), now) {
+        BamLeft::Message => state.complete(&packet.bytes).as_slice() == M9.as_slice(),
         _ => panic!(rt; "not complete"),
     }
 }
 
+// Whether it ends so.
+fn is_end(rt: &impl Abort, state: BamIn, end: &End) -> bool {
+    match end {
+        End::CompleteByValue(packet, now) => is_complete(rt, state.step(&packet.wire(), *now)),
+        End::Complete(packet, now) => completes(rt, state, packet, *now),
+        End::Drop(packet) => is_dropped(rt, state.step(&packet.wire(), 1)),
+        End::Expire => {
+            state.expire();
+            true
+        }
+        End::Close => {
+            state.close();
+            true
+        }
+        End::Overrun => {
+            state.overrun();
+            true
+        }
+    }
+}
+
+// A receiver does all this, and ends so. A step that isn't so ends the test, and its place in the table is printed.
+fn does(rt: &impl Abort, alloc: Global, steps: &[Step], end: &End) {
+    let mut state = receiver(rt, alloc);
+    holds(
+        rt,
+        state.from() == SOURCE && state.pgn().raw() == FECA && state.size() == 9,
+    );
+    for (place, step) in steps.iter().enumerate() {
+        let (left, so) = next(rt, state, step);
+        same(rt, (place, so), (place, true));
+        state = left;
+    }
+    holds(rt, is_end(rt, state, end));
+}
+
+// A packet past the last one.
+const PAST: Packet = Packet {
+    kind: Kind::Tp,
+    sequence: 3,
+    bytes: [8, 9, 0xFF, 0xFF, 0xFF, 0xFF, 0xFF],
+};
+
+// A repeated packet is ignored, and T1 keeps running.
+const RECEIVED: [Step; 7] = [
+    Step::Due(T1),
+    Step::Complete(FIRST, false),
+    Step::Complete(LAST, false),
+    Step::On(FIRST, 100),
+    Step::On(FIRST, 700),
+    Step::Due(850),
+    Step::Complete(LAST, true),
+];
+
+#[test]
+fn nine_bytes_are_received(rt: HostRuntime) {
+    does(&rt, rt.alloc(), &RECEIVED, &End::CompleteByValue(LAST, 849));
+}
+
+// A repeated packet changes nothing, nor does one that is skipped, nor the last one.
+const TAKEN: [Step; 5] = [
+    Step::Take(FIRST, 100, BamLeft::Nothing),
+    Step::Take(FIRST, 700, BamLeft::Nothing),
+    Step::Take(PAST, 700, BamLeft::Dropped),
+    Step::Take(LAST, 700, BamLeft::Message),
+    Step::Due(850),
+];
+
 #[test]
 fn nine_bytes_are_taken(rt: HostRuntime) {
-    let mut state = receiver(&rt, rt.alloc());
-    let went_on = state.take(&FIRST.wire(), 100);
-    // A repeated packet changes nothing, nor does one that is skipped, nor the last one.
-    let again = state.take(&FIRST.wire(), 700);
-    let skipped = state.take(&PAST.wire(), 700);
-    let last = state.take(&LAST.wire(), 700);
-    same(&rt, [went_on, again], [BamLeft::Nothing; 2]);
-    same(&rt, [skipped, last], [BamLeft::Dropped, BamLeft::Message]);
-    falls_due(&rt, &state, 850);
-    completes(&rt, state, 800);
+    does(&rt, rt.alloc(), &TAKEN, &End::Complete(LAST, 800));
 }
+
+// By a packet that is skipped, by its timer, by the end of its ports, and by missed frames.
+const ENDS: [End; 4] = [End::Drop(LAST), End::Expire, End::Close, End::Overrun];
 
 #[test]
 fn a_message_is_dropped(rt: HostRuntime) {
-    is_dropped(&rt, receiver(&rt, rt.alloc()).step(&LAST.wire(), 1));
-    receiver(&rt, rt.alloc()).expire();
-    receiver(&rt, rt.alloc()).close();
-    receiver(&rt, rt.alloc()).overrun();
+    for end in &ENDS {
+        does(&rt, rt.alloc(), &[], end);
+    }
 }

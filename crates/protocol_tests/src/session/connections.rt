@@ -1,315 +1,282 @@
-//! Exchanges of node 35 with node 21, frame by frame.
-use crate::checks::{got, holds, same};
-use crate::session::frames::{Packet, frame, pgn, shows, wire_pgn};
-use crate::session::received::{aborted, answers, complete, completed, on, taken};
-use bus_frame::Frame;
-use pgn_ids::Address;
-use responder::{Finished, Flow, Left, Peer, Receiver};
-use seg_cut::{Join, packets};
-use std::alloc::Global;
-use std::process::Abort;
-use tp_session::{InState, OutState, Received, accept, begin};
-use tp_wire::{AbortReason, Kind, Outcome, Wire};
-use tx_queue::TxQueue;
+//! Exchanges of TP of node 35 with node 21, frame by frame.
+use crate::means::{self, FECA, Means, Packet, Shown};
+use crate::session::exchanges::{Begun, ByValue, End, Step, does};
+use responder::{Flow, Left};
+use tp_wire::{AbortReason, Kind};
 
-// What 35 sends to 21 in TP.CM.
+// What 35 sends to 21 and to 80 in TP.CM.
 const CM_TO_21: u32 = 0x1CEC_2135;
 
-// The last of the nine bytes.
-const LAST: Packet = Packet {
+const CM_TO_80: u32 = 0x1CEC_8035;
+
+// The packets of a message whose bytes are their places, from 1.
+const FIRST: Means = Means::Packet(means::FIRST);
+
+const SECOND: Means = Means::Packet(Packet {
     kind: Kind::Tp,
     sequence: 2,
-    bytes: [8, 9, 255, 255, 255, 255, 255],
+    bytes: [8, 9, 10, 11, 12, 13, 14],
+});
+
+const THIRD: Means = Means::Packet(Packet {
+    kind: Kind::Tp,
+    sequence: 3,
+    bytes: [15, 16, 17, 18, 19, 20, 21],
+});
+
+const FOURTH: Means = Means::Packet(Packet {
+    kind: Kind::Tp,
+    sequence: 4,
+    bytes: [22, 23, 24, 25, 26, 27, 28],
+});
+
+// The last of nine bytes.
+const LAST: Means = Means::Packet(means::LAST);
+
+// A packet that the window doesn't have.
+const PAST: Means = Means::Packet(Packet {
+    kind: Kind::Tp,
+    sequence: 255,
+    bytes: [0; 7],
+});
+
+// The aborts that 35 sends to 21: a timeout, no resources, and any other reason.
+const TIMEOUT: Shown = (CM_TO_21, [0xFF, 3, 0xFF, 0xFF, 0xFF, 0xCA, 0xFE, 0]);
+
+const NO_RESOURCES: Shown = (CM_TO_21, [0xFF, 2, 0xFF, 0xFF, 0xFF, 0xCA, 0xFE, 0]);
+
+const OTHER: Shown = (CM_TO_21, [0xFF, 250, 0xFF, 0xFF, 0xFF, 0xCA, 0xFE, 0]);
+
+const NINE_BYTES: Begun = Begun {
+    kind: Kind::Tp,
+    from: 0x21,
+    pgn: FECA,
+    size: 9,
+    most: 255,
+    flow: Flow::Open,
+    asked: (CM_TO_21, [0x11, 2, 1, 0xFF, 0xFF, 0xCA, 0xFE, 0]),
 };
 
-// A TP abort with this reason.
-fn abort(reason: u8) -> [u8; 8] {
-    [0xFF, reason, 0xFF, 0xFF, 0xFF, 0xCA, 0xFE, 0]
-}
+const OF_NINE_BYTES: [Step; 4] = [
+    Step::Take((FIRST, true, Flow::Open, 1), Left::Nothing, None),
+    Step::Take((FIRST, false, Flow::Open, 2), Left::Nothing, None),
+    Step::Complete(LAST, true),
+    Step::Complete(FIRST, false),
+];
 
-// Diagnostics, FECA, from node 21.
-fn diagnostics(rt: &impl Abort) -> Peer {
-    Peer::new(Address(0x21), Address(0x35), wire_pgn(rt, 0xFECA))
-}
+const GIVEN: End = End::Given(
+    (LAST, true, Flow::Held, 3),
+    (CM_TO_21, [0x13, 9, 0, 2, 0xFF, 0xCA, 0xFE, 0]),
+);
 
-// A session begins to receive a message, in windows of at most so many packets.
-fn begun(
-    rt: &impl Abort,
-    alloc: Global,
-    peer: Peer,
-    most: u8,
-    size: u32,
-    flow: Flow,
-) -> (InState, Frame) {
-    holds(rt, size >= 9 && size <= 1785);
-    let mut join = Join::new(alloc, size);
-    got(rt, join.make_room(packets(size)));
-    accept(peer, most, join, flow, 0)
-}
-
-// Takes a frame. Nothing is made for it, so that no memory can be refused.
-fn step(
-    rt: &impl Abort,
-    mut state: InState,
-    wire: &Wire<'_>,
-    room: bool,
-    flow: Flow,
-    now: u64,
-) -> Received {
-    got(rt, state.prepare(wire, room, flow));
-    state.step(wire, room, flow, now)
-}
-
-fn expire(rt: &impl Abort, mut state: InState, flow: Flow, now: u64) -> Received {
-    got(rt, state.prepare_expire(flow));
-    state.expire(flow, now)
-}
-
-// It is due at this tick, and not at the one before.
-fn falls_due(rt: &impl Abort, state: &InState, now: u64) {
-    same(
-        rt,
-        (state.is_due(now.saturating_sub(1)), state.is_due(now)),
-        (false, true),
-    );
-}
-
-// Packet k of the message whose bytes are their places, from 1.
-fn packet(k: u8) -> Packet {
-    let first = k.wrapping_mul(7).wrapping_sub(6);
-    Packet {
-        kind: Kind::Tp,
-        sequence: k,
-        bytes: [
-            first,
-            first.wrapping_add(1),
-            first.wrapping_add(2),
-            first.wrapping_add(3),
-            first.wrapping_add(4),
-            first.wrapping_add(5),
-            first.wrapping_add(6),
-        ],
-    }
-}
-
-// A packet inside a window is taken: nothing is queued, and nothing left to do.
-fn takes(rt: &impl Abort, state: &mut Receiver, queue: &mut TxQueue, k: u8, room: bool, now: u64) {
-    let taken = taken(rt, state, queue, &packet(k).wire(), room, Flow::Open, now);
-    same(rt, taken, (Left::Nothing, None));
-}
-
-// The nine bytes, whole.
-fn nine_bytes(rt: &impl Abort, alloc: Global) -> Finished {
-    let mut queue = got(rt, TxQueue::new(alloc));
-    let (state, cts) = begun(rt, alloc, diagnostics(rt), 255, 9, Flow::Open);
-    shows(rt, cts, CM_TO_21, [0x11, 2, 1, 0xFF, 0xFF, 0xCA, 0xFE, 0]);
-    let mut state = state.into_receiver();
-    takes(rt, &mut state, &mut queue, 1, true, 1);
-    takes(rt, &mut state, &mut queue, 1, false, 2);
-    same(rt, state.size(), 9);
-    same(
-        rt,
-        (
-            state.completes(&LAST.wire()),
-            state.completes(&packet(1).wire()),
-        ),
-        (true, false),
-    );
-    completed(rt, state, &mut queue, &LAST.wire(), Flow::Held, 3)
-}
+const REFUSED: End = End::Refused((LAST, true, Flow::Held, 3), NO_RESOURCES);
 
 #[test]
 fn nine_bytes_are_given_or_refused(rt: HostRuntime) {
-    let (bytes, end) = nine_bytes(&rt, rt.alloc()).given();
-    same(
-        &rt,
-        bytes.as_slice(),
-        [1, 2, 3, 4, 5, 6, 7, 8, 9].as_slice(),
-    );
-    shows(&rt, end, CM_TO_21, [0x13, 9, 0, 2, 0xFF, 0xCA, 0xFE, 0]);
-    let refused = nine_bytes(&rt, rt.alloc()).refused();
-    shows(&rt, refused, CM_TO_21, abort(2));
+    does(&rt, rt.alloc(), &NINE_BYTES, &[], &OF_NINE_BYTES, &GIVEN);
+    does(&rt, rt.alloc(), &NINE_BYTES, &[], &OF_NINE_BYTES, &REFUSED);
 }
+
+// In windows of one packet.
+const ONE_BY_ONE: Begun = Begun {
+    kind: Kind::Tp,
+    from: 0x80,
+    pgn: 0xEF35,
+    size: 9,
+    most: 1,
+    flow: Flow::Open,
+    asked: (CM_TO_80, [0x11, 1, 1, 0xFF, 0xFF, 0x35, 0xEF, 0]),
+};
+
+const OF_ONE_BY_ONE: [ByValue; 1] = [ByValue::On(
+    (FIRST, true, Flow::Open, 0),
+    Some((CM_TO_80, [0x11, 1, 2, 0xFF, 0xFF, 0x35, 0xEF, 0])),
+)];
+
+const GIVEN_ONE_BY_ONE: End = End::GivenByValue(
+    (LAST, true, Flow::Open, 0),
+    (CM_TO_80, [0x13, 9, 0, 2, 0xFF, 0x35, 0xEF, 0]),
+);
 
 #[test]
 fn a_window_is_what_the_rts_allows(rt: HostRuntime) {
-    let peer = Peer::new(Address(0x80), Address(0x35), wire_pgn(&rt, 0xEF35));
-    let (state, cts) = begun(&rt, rt.alloc(), peer, 1, 9, Flow::Open);
-    shows(
+    does(
         &rt,
-        cts,
-        0x1CEC_8035,
-        [0x11, 1, 1, 0xFF, 0xFF, 0x35, 0xEF, 0],
+        rt.alloc(),
+        &ONE_BY_ONE,
+        &OF_ONE_BY_ONE,
+        &[],
+        &GIVEN_ONE_BY_ONE,
     );
-    let (state, cts) = answers(
-        &rt,
-        step(&rt, state, &packet(1).wire(), true, Flow::Open, 0),
-    );
-    shows(
-        &rt,
-        cts,
-        0x1CEC_8035,
-        [0x11, 1, 2, 0xFF, 0xFF, 0x35, 0xEF, 0],
-    );
-    let (_, end) = complete(
-        &rt,
-        step(&rt, state, &packet(2).wire(), true, Flow::Open, 0),
-    )
-    .given();
-    shows(&rt, end, 0x1CEC_8035, [0x13, 9, 0, 2, 0xFF, 0x35, 0xEF, 0]);
 }
+
+const HOLD: Shown = (CM_TO_21, [0x11, 0, 1, 0xFF, 0xFF, 0xCA, 0xFE, 0]);
+
+const HELD: Begun = Begun {
+    kind: Kind::Tp,
+    from: 0x21,
+    pgn: FECA,
+    size: 200,
+    most: 255,
+    flow: Flow::Held,
+    asked: HOLD,
+};
+
+const OF_HELD: [ByValue; 2] = [ByValue::Expire(Flow::Held, 500, HOLD), ByValue::Due(1000)];
 
 #[test]
 fn a_hold_is_repeated(rt: HostRuntime) {
-    let (state, hold) = begun(&rt, rt.alloc(), diagnostics(&rt), 255, 200, Flow::Held);
-    shows(&rt, hold, CM_TO_21, [0x11, 0, 1, 0xFF, 0xFF, 0xCA, 0xFE, 0]);
-    let (state, again) = answers(&rt, expire(&rt, state, Flow::Held, 500));
-    same(&rt, again, hold);
-    falls_due(&rt, &state, 1000);
-    state.abort();
+    does(&rt, rt.alloc(), &HELD, &OF_HELD, &[], &End::Abort);
 }
 
-fn take_window(rt: &impl Abort, state: &mut Receiver, queue: &mut TxQueue) {
-    for (k, room, flow, now, left) in [
-        (1, true, Flow::Open, 100, Left::Nothing),
-        (2, false, Flow::Held, 200, Left::Nothing),
-        // A repeated packet and one that is skipped change nothing, nor does the last of the window without room.
-        (2, true, Flow::Open, 300, Left::Nothing),
-        (4, true, Flow::Open, 300, Left::Abort(AbortReason::Other)),
-        (
-            3,
-            false,
-            Flow::Open,
-            300,
-            Left::Abort(AbortReason::Resources),
-        ),
-        (
-            3,
-            false,
-            Flow::Held,
-            300,
-            Left::Abort(AbortReason::Resources),
-        ),
-    ] {
-        let taken = taken(rt, state, queue, &packet(k).wire(), room, flow, now);
-        same(rt, (k, taken), (k, (left, None)));
-    }
-    same(rt, (state.is_due(949), state.is_due(950)), (false, true));
-}
+// Four packets, in windows of three.
+const THREE_BY_THREE: Begun = Begun {
+    kind: Kind::Tp,
+    from: 0x21,
+    pgn: FECA,
+    size: 28,
+    most: 3,
+    flow: Flow::Open,
+    asked: (CM_TO_21, [0x11, 3, 1, 0xFF, 0xFF, 0xCA, 0xFE, 0]),
+};
 
-// Takes the last packet of a window of three of a message of four, while the session is open or held.
-fn end_of_window(rt: &impl Abort, alloc: Global, queue: &mut TxQueue, flow: Flow) -> Receiver {
-    let (state, _) = begun(rt, alloc, diagnostics(rt), 3, 28, Flow::Open);
-    let mut state = state.into_receiver();
-    same(rt, state.kind(), Kind::Tp);
-    holds(rt, state.peer() == diagnostics(rt));
-    take_window(rt, &mut state, queue);
-    let (left, answer) = taken(rt, &mut state, queue, &packet(3).wire(), true, flow, 400);
-    same(rt, left, Left::Nothing);
-    let granted = if flow == Flow::Held { 0 } else { 1 };
-    let cts = frame(rt, CM_TO_21, [0x11, granted, 4, 0xFF, 0xFF, 0xCA, 0xFE, 0]);
-    same(rt, answer, Some(cts));
-    state
-}
+const NEXT: Shown = (CM_TO_21, [0x11, 1, 4, 0xFF, 0xFF, 0xCA, 0xFE, 0]);
+
+const HOLD_AT_4: Shown = (CM_TO_21, [0x11, 0, 4, 0xFF, 0xFF, 0xCA, 0xFE, 0]);
+
+const WRONG: Left = Left::Abort(AbortReason::Other);
+
+const WITHOUT_ROOM: Left = Left::Abort(AbortReason::Resources);
+
+// A repeated packet and one that is skipped change nothing, nor does the last of the window without room.
+const OF_THREE_BY_THREE: [Step; 9] = [
+    Step::Take((FIRST, true, Flow::Open, 100), Left::Nothing, None),
+    Step::Take((SECOND, false, Flow::Held, 200), Left::Nothing, None),
+    Step::Take((SECOND, true, Flow::Open, 300), Left::Nothing, None),
+    Step::Take((FOURTH, true, Flow::Open, 300), WRONG, None),
+    Step::Take((THIRD, false, Flow::Open, 300), WITHOUT_ROOM, None),
+    Step::Take((THIRD, false, Flow::Held, 300), WITHOUT_ROOM, None),
+    Step::Due(950),
+    Step::Take((THIRD, true, Flow::Open, 400), Left::Nothing, Some(NEXT)),
+    Step::Due(1650),
+];
+
+const GIVEN_WHOLE: End = End::Given(
+    (FOURTH, true, Flow::Open, 500),
+    (CM_TO_21, [0x13, 28, 0, 4, 0xFF, 0xCA, 0xFE, 0]),
+);
 
 #[test]
 fn a_window_is_followed_by_the_next(rt: HostRuntime) {
-    let mut queue = got(&rt, TxQueue::new(rt.alloc()));
-    let state = end_of_window(&rt, rt.alloc(), &mut queue, Flow::Open);
-    same(&rt, (state.is_due(1649), state.is_due(1650)), (false, true));
-    let (bytes, _) = completed(&rt, state, &mut queue, &packet(4).wire(), Flow::Open, 500).given();
-    same(&rt, bytes.len(), 28);
-    same(&rt, bytes.last(), Some(&28));
+    does(
+        &rt,
+        rt.alloc(),
+        &THREE_BY_THREE,
+        &[],
+        &OF_THREE_BY_THREE,
+        &GIVEN_WHOLE,
+    );
 }
 
-// The timer fires, and this frame is queued.
-fn fires(
-    rt: &impl Abort,
-    state: &mut Receiver,
-    queue: &mut TxQueue,
-    flow: Flow,
-    now: u64,
-) -> (Left, Option<Frame>) {
-    holds(rt, queue.is_empty());
-    (state.fire(flow, now, queue), queue.pop())
-}
+const HELD_AT_4: [Step; 8] = [
+    Step::Take((FIRST, true, Flow::Open, 100), Left::Nothing, None),
+    Step::Take((SECOND, false, Flow::Held, 200), Left::Nothing, None),
+    Step::Due(950),
+    Step::Take(
+        (THIRD, true, Flow::Held, 400),
+        Left::Nothing,
+        Some(HOLD_AT_4),
+    ),
+    Step::Due(900),
+    Step::Fire(Flow::Held, 900, Left::Nothing, Some(HOLD_AT_4)),
+    Step::Fire(Flow::Open, 1400, Left::Nothing, Some(NEXT)),
+    Step::Fire(Flow::Open, 2650, Left::Abort(AbortReason::Timeout), None),
+];
+
+const ENDED: End = End::Ended(AbortReason::Timeout, TIMEOUT);
 
 #[test]
 fn a_hold_ends_where_the_receiver_stands(rt: HostRuntime) {
-    let mut queue = got(&rt, TxQueue::new(rt.alloc()));
-    let mut state = end_of_window(&rt, rt.alloc(), &mut queue, Flow::Held);
-    same(&rt, (state.is_due(899), state.is_due(900)), (false, true));
-    let hold = frame(&rt, CM_TO_21, [0x11, 0, 4, 0xFF, 0xFF, 0xCA, 0xFE, 0]);
-    let cts = frame(&rt, CM_TO_21, [0x11, 1, 4, 0xFF, 0xFF, 0xCA, 0xFE, 0]);
-    same(
-        &rt,
-        fires(&rt, &mut state, &mut queue, Flow::Held, 900),
-        (Left::Nothing, Some(hold)),
-    );
-    same(
-        &rt,
-        fires(&rt, &mut state, &mut queue, Flow::Open, 1400),
-        (Left::Nothing, Some(cts)),
-    );
-    let timeout = Left::Abort(AbortReason::Timeout);
-    same(
-        &rt,
-        fires(&rt, &mut state, &mut queue, Flow::Open, 2650),
-        (timeout, None),
-    );
-    shows(&rt, state.end(AbortReason::Timeout), CM_TO_21, abort(3));
+    does(&rt, rt.alloc(), &THREE_BY_THREE, &[], &HELD_AT_4, &ENDED);
 }
 
-// The step of packet `last` at tick 200, after packet 1 of three at tick 100, in windows of two.
-fn third_step(rt: &impl Abort, alloc: Global, last: u8, room: bool) -> Received {
-    let (state, _) = begun(rt, alloc, diagnostics(rt), 2, 21, Flow::Open);
-    let (state, _) = on(
-        rt,
-        step(rt, state, &packet(1).wire(), true, Flow::Open, 100),
-    );
-    step(rt, state, &packet(last).wire(), room, Flow::Open, 200)
-}
+// Three packets, in windows of two.
+const TWO_BY_TWO: Begun = Begun {
+    kind: Kind::Tp,
+    from: 0x21,
+    pgn: FECA,
+    size: 21,
+    most: 2,
+    flow: Flow::Open,
+    asked: (CM_TO_21, [0x11, 2, 1, 0xFF, 0xFF, 0xCA, 0xFE, 0]),
+};
+
+const FIRST_OF_TWO: [ByValue; 1] = [ByValue::On((FIRST, true, Flow::Open, 100), None)];
+
+// Without room at the end of a window, by a packet that is skipped, and by one that the message doesn't have.
+const ABORTED: [End; 3] = [
+    End::Aborted((SECOND, false, Flow::Open, 200), NO_RESOURCES),
+    End::Aborted((THIRD, true, Flow::Open, 200), OTHER),
+    End::Aborted((PAST, true, Flow::Open, 200), OTHER),
+];
 
 #[test]
 fn a_session_ends_by_its_abort(rt: HostRuntime) {
-    for (last, room, reason) in [(2, false, 2), (3, true, 250), (255, true, 250)] {
-        let ended = aborted(&rt, third_step(&rt, rt.alloc(), last, room));
-        shows(&rt, ended, CM_TO_21, abort(reason));
+    for end in &ABORTED {
+        does(&rt, rt.alloc(), &TWO_BY_TWO, &FIRST_OF_TWO, &[], end);
     }
 }
+
+// T2 after the CTS at tick 200.
+const AFTER_ITS_CTS: [ByValue; 3] = [
+    ByValue::On((FIRST, true, Flow::Open, 100), None),
+    ByValue::On(
+        (SECOND, true, Flow::Open, 200),
+        Some((CM_TO_21, [0x11, 1, 3, 0xFF, 0xFF, 0xCA, 0xFE, 0])),
+    ),
+    ByValue::Due(1450),
+];
+
+// T1 after the repeated packet's first coming at tick 100.
+const AFTER_A_PACKET: [ByValue; 3] = [
+    ByValue::On((FIRST, true, Flow::Open, 100), None),
+    ByValue::On((FIRST, true, Flow::Open, 200), None),
+    ByValue::Due(850),
+];
 
 #[test]
 fn a_session_waits_for_packets(rt: HostRuntime) {
-    // T2 after the CTS at tick 200, T1 after the repeated packet's first coming at tick 100.
-    for (last, due) in [(2, 1450), (1, 850)] {
-        let (state, _) = on(&rt, third_step(&rt, rt.alloc(), last, true));
-        falls_due(&rt, &state, due);
-        let ended = aborted(&rt, expire(&rt, state, Flow::Open, due));
-        shows(&rt, ended, CM_TO_21, abort(3));
-    }
+    let (alloc, begun) = (rt.alloc(), &TWO_BY_TWO);
+    does(
+        &rt,
+        alloc,
+        begun,
+        &AFTER_ITS_CTS,
+        &[],
+        &End::TimedOut(1450, TIMEOUT),
+    );
+    does(
+        &rt,
+        alloc,
+        begun,
+        &AFTER_A_PACKET,
+        &[],
+        &End::TimedOut(850, TIMEOUT),
+    );
 }
 
-fn new_session(rt: &impl Abort, alloc: Global, flow: Flow) -> InState {
-    let (state, _) = begun(rt, alloc, diagnostics(rt), 255, 9, flow);
-    state
-}
+const ENDS: [End; 5] = [
+    End::Closed(NO_RESOURCES),
+    End::Abort,
+    End::Overrun,
+    End::AbortInPlace,
+    End::OverrunInPlace,
+];
 
 #[test]
 fn a_session_is_closed_aborted_or_overrun(rt: HostRuntime) {
-    for flow in [Flow::Open, Flow::Held] {
-        let closed = new_session(&rt, rt.alloc(), flow).close();
-        shows(&rt, closed, CM_TO_21, abort(2));
-        new_session(&rt, rt.alloc(), flow).abort();
-        new_session(&rt, rt.alloc(), flow).overrun();
-        new_session(&rt, rt.alloc(), flow).into_receiver().abort();
-        new_session(&rt, rt.alloc(), flow).into_receiver().overrun();
+    for end in &ENDS {
+        does(&rt, rt.alloc(), &NINE_BYTES, &[], &[], end);
+        does(&rt, rt.alloc(), &HELD, &[], &[], end);
     }
-}
-
-#[test]
-fn a_message_is_sent_by_its_rts(rt: HostRuntime) {
-    let (state, rts) = begin(Address(0x21), Address(0x35), pgn(&rt, 0xFECA), 9, 0);
-    shows(&rt, rts, 0x1CEC_3521, [0x10, 9, 0, 2, 0xFF, 0xCA, 0xFE, 0]);
-    let over = OutState::AwaitCts(state).overrun();
-    same(&rt, over.outcome, Outcome::Overrun);
 }

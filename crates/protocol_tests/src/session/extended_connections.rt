@@ -1,273 +1,209 @@
 //! Exact frames of extended connections, and that calls succeed. Whole exchanges are cases: message_of_1786_bytes_is_given, and in
 //! script_tests one of 100,000 bytes.
-use crate::checks::{got, holds, same};
-use crate::session::frames::{Packet, frame, pgn, wire_pgn};
-use crate::session::received::{aborted, answers, goes_on, taken};
-use bus_frame::Frame;
-use etp_session::{InState, OutState, Received, accept, begin};
-use pgn_ids::Address;
-use responder::{Flow, Left, Peer, Receiver};
-use seg_cut::Join;
-use std::alloc::Global;
-use std::process::Abort;
-use tp_wire::constants::{CONN_ABORT, ETP_CTS, ETP_MAX_SIZE, ETP_MAX_WINDOW, ETP_RTS};
-use tp_wire::{AbortReason, CmFrame, Kind, Wire};
-use tx_queue::TxQueue;
+use crate::means::{Cm, FECA, Means, Packet, Shown};
+use crate::session::exchanges::{Begun, ByValue, End, Step, does};
+use responder::{Flow, Left};
+use tp_wire::{AbortReason, Kind};
 
-const FECA: u32 = 0xFECA;
+// What 35 sends to 21 in ETP.CM.
+const CM_TO_21: u32 = 0x1CC8_2135;
 
-// A frame of ETP.CM from 35 to 21 about FECA.
-fn from_35(rt: &impl Abort, control: u8, [a, b, c, d]: [u8; 4]) -> Frame {
-    frame(rt, 0x1CC8_2135, [control, a, b, c, d, 0xCA, 0xFE, 0x00])
-}
+// The aborts that 35 sends to 21: a timeout, no resources, and any other reason.
+const TIMEOUT: Shown = (CM_TO_21, [0xFF, 3, 0xFF, 0xFF, 0xFF, 0xCA, 0xFE, 0]);
 
-fn is_abort(rt: &impl Abort, ended: Frame, reason: u8) {
-    same(
-        rt,
-        ended,
-        from_35(rt, CONN_ABORT, [reason, 0xFF, 0xFF, 0xFF]),
-    );
-}
+const NO_RESOURCES: Shown = (CM_TO_21, [0xFF, 2, 0xFF, 0xFF, 0xFF, 0xCA, 0xFE, 0]);
 
-fn dpo(rt: &impl Abort, packets: u8, offset: u32) -> Wire<'static> {
-    Wire::Cm(CmFrame::EtpDpo {
-        packets,
-        offset,
-        pgn: wire_pgn(rt, FECA),
-    })
-}
-
-fn data(sequence: u8, bytes: [u8; 7]) -> Packet {
-    Packet {
-        kind: Kind::Etp,
-        sequence,
-        bytes,
-    }
-}
-
-// 35 begins to receive a message of FECA from 21.
-fn begun(rt: &impl Abort, alloc: Global, size: u32, flow: Flow) -> (InState, Frame) {
-    holds(rt, size >= 1786 && size <= ETP_MAX_SIZE);
-    let mut join = Join::new(alloc, size);
-    got(rt, join.make_room(u32::from(ETP_MAX_WINDOW)));
-    let peer = Peer::new(Address(0x21), Address(0x35), wire_pgn(rt, FECA));
-    accept(peer, join, flow, 0)
-}
+const OTHER: Shown = (CM_TO_21, [0xFF, 250, 0xFF, 0xFF, 0xFF, 0xCA, 0xFE, 0]);
 
 // A message of 1,786 bytes whose first window is granted.
-fn begun_open(rt: &impl Abort, alloc: Global) -> InState {
-    let (state, cts) = begun(rt, alloc, 1786, Flow::Open);
-    same(rt, cts, from_35(rt, ETP_CTS, [0x40, 0x01, 0, 0]));
-    state
-}
+const BEGUN: Begun = Begun {
+    kind: Kind::Etp,
+    from: 0x21,
+    pgn: FECA,
+    size: 1786,
+    most: 64,
+    flow: Flow::Open,
+    asked: (CM_TO_21, [0x15, 0x40, 1, 0, 0, 0xCA, 0xFE, 0]),
+};
 
-// Prepares and takes. If memory is refused, the call succeeds when it is made again.
-fn take(rt: &impl Abort, mut state: InState, wire: &Wire<'_>, flow: Flow) -> Received {
-    if state.prepare(wire, true, flow).is_err() {
-        got(rt, state.prepare(wire, true, flow));
-    }
-    state.step(wire, true, flow, 0)
-}
+const FIRST: Means = Means::Packet(Packet {
+    kind: Kind::Etp,
+    sequence: 1,
+    bytes: [0; 7],
+});
 
-// Takes a frame in place, with room. If memory is refused nothing has changed, and the call succeeds when it is made again.
-fn takes(
-    rt: &impl Abort,
-    state: &mut Receiver,
-    queue: &mut TxQueue,
-    wire: &Wire<'_>,
-    now: u64,
-) -> (Left, Option<Frame>) {
-    let memory = state.memory();
-    let (left, answer) = taken(rt, state, queue, wire, true, Flow::Open, now);
-    if left != Left::NoMemory {
-        return (left, answer);
-    }
-    same(rt, (state.memory(), answer), (memory, None));
-    taken(rt, state, queue, wire, true, Flow::Open, now)
-}
+const SECOND: Means = Means::Packet(Packet {
+    kind: Kind::Etp,
+    sequence: 2,
+    bytes: [0; 7],
+});
 
-// It is due at this tick, and not at the one before.
-fn falls_due(rt: &impl Abort, state: &InState, now: u64) {
-    same(
-        rt,
-        (state.is_due(now.saturating_sub(1)), state.is_due(now)),
-        (false, true),
-    );
-}
+const THIRD: Means = Means::Packet(Packet {
+    kind: Kind::Etp,
+    sequence: 3,
+    bytes: [0; 7],
+});
 
-fn has_memory(rt: &impl Abort, state: &Receiver, memory: usize) {
-    same(rt, state.memory(), memory);
-}
+const FOURTH: Means = Means::Packet(Packet {
+    kind: Kind::Etp,
+    sequence: 4,
+    bytes: [0; 7],
+});
 
-// A session begins, and its first frame ends it by an abort.
-fn is_ended_by(rt: &impl Abort, alloc: Global, wire: &Wire<'_>) {
-    let state = begun_open(rt, alloc);
-    is_abort(rt, aborted(rt, take(rt, state, wire, Flow::Open)), 250);
-}
+const SIXTY_FOURTH: Means = Means::Packet(Packet {
+    kind: Kind::Etp,
+    sequence: 64,
+    bytes: [0; 7],
+});
 
-fn goes_on_after(rt: &impl Abort, alloc: Global, wire: &Wire<'_>) {
-    let state = begun_open(rt, alloc);
-    goes_on(rt, take(rt, state, wire, Flow::Open)).overrun();
-}
+const SIXTY_FIFTH: Means = Means::Packet(Packet {
+    kind: Kind::Etp,
+    sequence: 65,
+    bytes: [0; 7],
+});
+
+// The offset of a whole window.
+const OFFSET: Means = Means::Cm(Cm::EtpDpo(64, 0));
+
+// A packet before its DPO, and a DPO of no packets, of a wrong offset and of more packets than were granted.
+const ENDED_AT_ONCE: [End; 4] = [
+    End::Aborted((FIRST, true, Flow::Open, 0), OTHER),
+    End::Aborted((Means::Cm(Cm::EtpDpo(0, 0)), true, Flow::Open, 0), OTHER),
+    End::Aborted((Means::Cm(Cm::EtpDpo(1, 1)), true, Flow::Open, 0), OTHER),
+    End::Aborted((Means::Cm(Cm::EtpDpo(65, 0)), true, Flow::Open, 0), OTHER),
+];
+
+// A DPO of another message changes nothing.
+const GOES_ON: [ByValue; 2] = [
+    ByValue::On(
+        (Means::CmOfOther(Cm::EtpDpo(64, 0)), true, Flow::Open, 0),
+        None,
+    ),
+    ByValue::On((OFFSET, true, Flow::Open, 0), None),
+];
 
 #[test]
 fn begins(rt: HostRuntime) {
-    let other = CmFrame::EtpDpo {
-        packets: 64,
-        offset: 0,
-        pgn: wire_pgn(&rt, 0xFECB),
-    };
-    is_ended_by(&rt, rt.alloc(), &data(1, [0; 7]).wire());
-    is_ended_by(&rt, rt.alloc(), &dpo(&rt, 0, 0));
-    is_ended_by(&rt, rt.alloc(), &dpo(&rt, 1, 1));
-    is_ended_by(&rt, rt.alloc(), &dpo(&rt, 65, 0));
-    goes_on_after(&rt, rt.alloc(), &dpo(&rt, 64, 0));
-    goes_on_after(&rt, rt.alloc(), &Wire::Cm(other));
-}
-
-// The step of the last packet of the first window.
-fn first_window(rt: &impl Abort, state: InState, flow: Flow) -> Received {
-    let mut state = goes_on(rt, take(rt, state, &dpo(rt, 64, 0), flow));
-    for sequence in 1..64 {
-        state = goes_on(rt, take(rt, state, &data(sequence, [0; 7]).wire(), flow));
+    for end in &ENDED_AT_ONCE {
+        does(&rt, rt.alloc(), &BEGUN, &[], &[], end);
     }
-    take(rt, state, &data(64, [0; 7]).wire(), flow)
+    does(&rt, rt.alloc(), &BEGUN, &GOES_ON, &[], &End::Overrun);
 }
 
-// A frame leaves this to do, and queues nothing.
-fn leaves(
-    rt: &impl Abort,
-    state: &mut Receiver,
-    queue: &mut TxQueue,
-    wire: &Wire<'_>,
-    now: u64,
-    left: Left,
-) {
-    same(rt, takes(rt, state, queue, wire, now), (left, None));
-}
+const WRONG: Left = Left::Abort(AbortReason::Other);
 
-// A packet leaves this to do, and queues nothing.
-fn packet_leaves(
-    rt: &impl Abort,
-    state: &mut Receiver,
-    queue: &mut TxQueue,
-    sequence: u8,
-    now: u64,
-    left: Left,
-) {
-    leaves(rt, state, queue, &data(sequence, [0; 7]).wire(), now, left);
-}
-
-fn take_three(rt: &impl Abort, state: &mut Receiver, queue: &mut TxQueue) {
-    let wrong = Left::Abort(AbortReason::Other);
-    // Packets that no DPO has announced, and a DPO past what was granted.
-    packet_leaves(rt, state, queue, 1, 50, wrong);
-    leaves(rt, state, queue, &dpo(rt, 3, 1), 50, wrong);
-    leaves(rt, state, queue, &dpo(rt, 3, 0), 60, Left::Nothing);
-    packet_leaves(rt, state, queue, 1, 100, Left::Nothing);
-    packet_leaves(rt, state, queue, 2, 200, Left::Nothing);
-    // A repeated packet and one that is skipped change nothing.
-    packet_leaves(rt, state, queue, 2, 300, Left::Nothing);
-    packet_leaves(rt, state, queue, 4, 300, wrong);
-}
+// Packets that no DPO has announced and a DPO past what was granted change nothing, nor do a repeated packet and one that is skipped.
+const THREE: [Step; 10] = [
+    Step::Take((FIRST, true, Flow::Open, 50), WRONG, None),
+    Step::Take(
+        (Means::Cm(Cm::EtpDpo(3, 1)), true, Flow::Open, 50),
+        WRONG,
+        None,
+    ),
+    Step::Take(
+        (Means::Cm(Cm::EtpDpo(3, 0)), true, Flow::Open, 60),
+        Left::Nothing,
+        None,
+    ),
+    Step::Take((FIRST, true, Flow::Open, 100), Left::Nothing, None),
+    Step::Take((SECOND, true, Flow::Open, 200), Left::Nothing, None),
+    Step::Take((SECOND, true, Flow::Open, 300), Left::Nothing, None),
+    Step::Take((FOURTH, true, Flow::Open, 300), WRONG, None),
+    Step::Due(950),
+    Step::Take(
+        (THIRD, true, Flow::Open, 400),
+        Left::Nothing,
+        Some((CM_TO_21, [0x15, 0x40, 4, 0, 0, 0xCA, 0xFE, 0])),
+    ),
+    Step::Memory(67 * 7),
+];
 
 #[test]
 fn packets_in_a_window_are_taken(rt: HostRuntime) {
-    let mut queue = got(&rt, TxQueue::new(rt.alloc()));
-    let mut state = begun_open(&rt, rt.alloc()).into_receiver();
-    take_three(&rt, &mut state, &mut queue);
-    same(&rt, (state.is_due(949), state.is_due(950)), (false, true));
-    let cts = from_35(&rt, ETP_CTS, [0x40, 4, 0, 0]);
-    let third = takes(&rt, &mut state, &mut queue, &data(3, [0; 7]).wire(), 400);
-    same(&rt, third, (Left::Nothing, Some(cts)));
-    has_memory(&rt, &state, 67 * 7);
-    state.overrun();
+    does(&rt, rt.alloc(), &BEGUN, &[], &THREE, &End::OverrunInPlace);
 }
+
+const NEXT: Shown = (CM_TO_21, [0x15, 0x40, 0x41, 0, 0, 0xCA, 0xFE, 0]);
+
+const WINDOW_AND_REPEATED: [ByValue; 4] = [
+    ByValue::On((OFFSET, true, Flow::Open, 0), None),
+    ByValue::OnUpTo(63, Flow::Open),
+    ByValue::On((SIXTY_FOURTH, true, Flow::Open, 0), Some(NEXT)),
+    ByValue::On((SIXTY_FOURTH, true, Flow::Open, 0), None),
+];
+
+const TWO_WINDOWS: [Step; 1] = [Step::Memory(2 * 64 * 7)];
+
+const OLD_OFFSET: End = End::Aborted((SIXTY_FIFTH, true, Flow::Open, 0), OTHER);
 
 #[test]
 fn old_offset(rt: HostRuntime) {
-    let state = begun_open(&rt, rt.alloc());
-    let (state, cts) = answers(&rt, first_window(&rt, state, Flow::Open));
-    same(&rt, cts, from_35(&rt, ETP_CTS, [0x40, 0x41, 0, 0]));
-    let state = goes_on(
+    does(
         &rt,
-        take(&rt, state, &data(64, [0; 7]).wire(), Flow::Open),
-    ).into_receiver();
-    has_memory(&rt, &state, 2 * 64 * 7);
-    let ended = take(
-        &rt,
-        state.into_state(),
-        &data(65, [0; 7]).wire(),
-        Flow::Open,
+        rt.alloc(),
+        &BEGUN,
+        &WINDOW_AND_REPEATED,
+        &TWO_WINDOWS,
+        &OLD_OFFSET,
     );
-    is_abort(&rt, aborted(&rt, ended), 250);
 }
 
-// What follows from a timer whose step needs no more memory than there is at the second try.
-fn fire(rt: &impl Abort, mut state: InState, flow: Flow, now: u64) -> Received {
-    if state.prepare_expire(flow).is_err() {
-        got(rt, state.prepare_expire(flow));
-    }
-    state.expire(flow, now)
-}
+const HOLD: Shown = (CM_TO_21, [0x15, 0, 0x41, 0, 0, 0xCA, 0xFE, 0]);
 
-// The hold ends at tick 1000, and this frame is queued. If memory is refused nothing has changed, and the call succeeds when it is made again.
-fn fires(rt: &impl Abort, state: &mut Receiver, queue: &mut TxQueue) -> Option<Frame> {
-    holds(rt, queue.is_empty());
-    let mut left = state.fire(Flow::Open, 1000, queue);
-    if left == Left::NoMemory {
-        has_memory(rt, state, 64 * 7);
-        holds(rt, queue.is_empty());
-        left = state.fire(Flow::Open, 1000, queue);
-    }
-    same(rt, left, Left::Nothing);
-    queue.pop()
-}
+const WINDOW_AND_HOLD: [ByValue; 4] = [
+    ByValue::On((OFFSET, true, Flow::Held, 0), None),
+    ByValue::OnUpTo(63, Flow::Held),
+    ByValue::On((SIXTY_FOURTH, true, Flow::Held, 0), Some(HOLD)),
+    ByValue::Due(500),
+];
 
-// The hold is repeated, and ends once there is room. If memory is refused nothing has changed.
+const HELD: [Step; 4] = [
+    Step::Fire(Flow::Held, 500, Left::Nothing, Some(HOLD)),
+    Step::Memory(64 * 7),
+    Step::Fire(Flow::Open, 1000, Left::Nothing, Some(NEXT)),
+    Step::Memory(2 * 64 * 7),
+];
+
+// The hold is repeated, and ends once there is room.
 #[test]
 fn a_hold_ends_where_the_receiver_stands(rt: HostRuntime) {
-    let mut queue = got(&rt, TxQueue::new(rt.alloc()));
-    let state = begun_open(&rt, rt.alloc());
-    let (state, hold) = answers(&rt, first_window(&rt, state, Flow::Held));
-    same(&rt, hold, from_35(&rt, ETP_CTS, [0, 0x41, 0, 0]));
-    falls_due(&rt, &state, 500);
-    let mut state = state.into_receiver();
-    same(&rt, state.peer().from(), Address(0x21));
-    same(&rt, state.fire(Flow::Held, 500, &mut queue), Left::Nothing);
-    same(&rt, queue.pop(), Some(hold));
-    has_memory(&rt, &state, 64 * 7);
-    let cts = from_35(&rt, ETP_CTS, [0x40, 0x41, 0, 0]);
-    same(&rt, fires(&rt, &mut state, &mut queue), Some(cts));
-    has_memory(&rt, &state, 2 * 64 * 7);
-    state.abort();
+    does(
+        &rt,
+        rt.alloc(),
+        &BEGUN,
+        &WINDOW_AND_HOLD,
+        &HELD,
+        &End::AbortInPlace,
+    );
 }
 
 #[test]
 fn a_closed_session_is_aborted(rt: HostRuntime) {
-    is_abort(&rt, begun_open(&rt, rt.alloc()).close(), 2);
+    does(
+        &rt,
+        rt.alloc(),
+        &BEGUN,
+        &[],
+        &[],
+        &End::Closed(NO_RESOURCES),
+    );
 }
+
+const SILENT: [ByValue; 4] = [
+    ByValue::Due(1250),
+    ByValue::On((OFFSET, true, Flow::Open, 0), None),
+    ByValue::On((FIRST, true, Flow::Open, 0), None),
+    ByValue::Due(750),
+];
 
 #[test]
 fn times_out(rt: HostRuntime) {
-    let state = begun_open(&rt, rt.alloc());
-    falls_due(&rt, &state, 1250);
-    let state = goes_on(&rt, take(&rt, state, &dpo(&rt, 64, 0), Flow::Open));
-    let state = goes_on(&rt, take(&rt, state, &data(1, [0; 7]).wire(), Flow::Open));
-    falls_due(&rt, &state, 750);
-    is_abort(&rt, aborted(&rt, fire(&rt, state, Flow::Open, 750)), 3);
-}
-
-#[test]
-fn largest_message(rt: HostRuntime) {
-    let (state, rts) = begin(
-        Address(0x21),
-        Address(0x35),
-        pgn(&rt, FECA),
-        ETP_MAX_SIZE,
-        0,
+    does(
+        &rt,
+        rt.alloc(),
+        &BEGUN,
+        &SILENT,
+        &[],
+        &End::TimedOut(750, TIMEOUT),
     );
-    let _ = OutState::AwaitCts(state).overrun();
-    let bytes = [ETP_RTS, 0xF9, 0xFF, 0xFF, 0x06, 0xCA, 0xFE, 0x00];
-    same(&rt, rts, frame(&rt, 0x1CC8_3521, bytes));
 }

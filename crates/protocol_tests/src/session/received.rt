@@ -57,22 +57,6 @@ pub(crate) fn on(rt: &impl Abort, received: Received) -> (InState, Option<Frame>
     }
 }
 
-/// The session continues, and nothing is queued.
-pub(crate) fn goes_on(rt: &impl Abort, received: Received) -> InState {
-    match received {
-        Received::On(state, None) => state,
-        _ => panic!(rt; "a frame is queued or the session ends"),
-    }
-}
-
-/// The session continues, and a frame is queued.
-pub(crate) fn answers(rt: &impl Abort, received: Received) -> (InState, Frame) {
-    match received {
-        Received::On(state, frame) => (state, frame.expect(rt, "a frame is queued")),
-        _ => panic!(rt; "the session ends"),
-    }
-}
-
 pub(crate) fn complete(rt: &impl Abort, received: Received) -> Finished {
     match received {
         Received::Complete(message) => message,

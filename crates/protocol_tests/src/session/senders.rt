@@ -1,59 +1,85 @@
-//! The sending side of a connection: the frames of an exchange, byte by byte, and that each call can succeed. Exchanges of 1,785 and 1,786
-//! bytes are cases, message_of_1785_bytes_is_given and message_of_1786_bytes_is_given.
+//! The sending side of a connection, step by step: node 21 sends nine bytes. The steps of a test are a table, which one function plays: a table
+//! needs no proof, and each call in a test does. Exchanges of 1,785 and 1,786 bytes are cases, message_of_1785_bytes_is_given and
+//! message_of_1786_bytes_is_given.
 use crate::checks::{got, holds, same};
+use crate::means::{Cm, FECA, Means, Shown, is_frame, is_shown, pgn, wire};
 use bus_frame::Frame;
-use originator::{Ending, OutOver, OutState, Stepped, begin};
-use pgn_ids::{Address, Pgn};
+use originator::{AwaitCts, Ending, OutOver, OutState, Stepped, begin};
+use pgn_ids::Address;
+use std::alloc::Global;
 use std::process::Abort;
-use tp_wire::{AbortReason, CmFrame, Kind, Outcome, Wire};
+use tp_wire::constants::ETP_MAX_SIZE;
+use tp_wire::{AbortReason, Kind, Outcome};
 use tx_queue::TxQueue;
 
 const OWN: Address = Address(0x21);
 
 const PEER: Address = Address(0x35);
 
-const FOREIGN: Address = Address(0x80);
-
 const NINE: [u8; 9] = [1, 2, 3, 4, 5, 6, 7, 8, 9];
 
-const PACKET_1: [u8; 8] = [1, 1, 2, 3, 4, 5, 6, 7];
+/// A destination, the request to send to it, and both packets.
+type To = (Address, Shown, [Shown; 2]);
 
-const PACKET_2: [u8; 8] = [2, 8, 9, 0xFF, 0xFF, 0xFF, 0xFF, 0xFF];
+const TO_35: To = (
+    PEER,
+    (0x1CEC_3521, [0x10, 9, 0, 2, 0xFF, 0xCA, 0xFE, 0]),
+    [
+        (0x1CEB_3521, [1, 1, 2, 3, 4, 5, 6, 7]),
+        (0x1CEB_3521, [2, 8, 9, 0xFF, 0xFF, 0xFF, 0xFF, 0xFF]),
+    ],
+);
 
-fn cts(granted: u8, next: u8, pgn: Pgn) -> Wire<'static> {
-    let pgn = pgn.field();
-    Wire::Cm(CmFrame::Cts { granted, next, pgn })
+const TO_80: To = (
+    Address(0x80),
+    (0x1CEC_8021, [0x10, 9, 0, 2, 0xFF, 0xCA, 0xFE, 0]),
+    [
+        (0x1CEB_8021, [1, 1, 2, 3, 4, 5, 6, 7]),
+        (0x1CEB_8021, [2, 8, 9, 0xFF, 0xFF, 0xFF, 0xFF, 0xFF]),
+    ],
+);
+
+/// What is done with the message, which continues, or is seen of it.
+enum Step {
+    /// A frame is taken by value, at tick 0.
+    On(Means),
+    /// A frame is taken in place at this tick, and ends the message so if at all.
+    Take(Means, u64, Option<Ending>),
+    /// Both packets are queued at this tick, or nothing is.
+    Pump(u64, bool),
+    /// It is due at this tick, and not at the one before.
+    Due(u64),
+    /// It is never due.
+    Idle,
 }
 
-fn end(size: u16, packets: u8, pgn: Pgn) -> Wire<'static> {
-    let pgn = pgn.field();
-    Wire::Cm(CmFrame::EndOfMsgAck { size, packets, pgn })
+/// How the message ends.
+enum End {
+    /// A frame is taken by value.
+    Step(Means),
+    Expire,
+    /// It is due at this tick, and not at the one before, and expires: the state of its stage says so.
+    ExpireStage(u64),
+    Cancel,
+    Abort(u8),
+    Overrun,
+    End(Ending),
 }
 
-/// The message of nine bytes from 21 begins at tick 0, with its request to send.
-fn begun(rt: &impl Abort, to: Address, pgn: Pgn) -> (OutState, Frame) {
-    holds(rt, to.is_one());
-    let (state, rts) = begin(Kind::Tp, OWN, to, pgn, 9, 0);
-    (OutState::AwaitCts(state), rts)
-}
-
-/// The message of nine bytes from 21 on TP, its request to send queued at tick 0.
-fn nine_bytes_to(rt: &impl Abort, to: Address, pgn: Pgn) -> OutState {
-    let (state, _rts) = begun(rt, to, pgn);
-    state
-}
+/// An end, and the outcome and the frame of it.
+type Over = (End, Outcome, Option<Shown>);
 
 /// The message that continues after this frame.
-fn goes_on(rt: &impl Abort, state: OutState, wire: Wire<'_>) -> OutState {
-    match state.step(&wire, 0) {
+fn goes_on(rt: &impl Abort, state: OutState, means: &Means) -> OutState {
+    match state.step(&wire(rt, means), 0) {
         Stepped::On(state) => state,
         Stepped::Over(_) => panic!(rt; "the message ended"),
     }
 }
 
 /// How it ended with this frame.
-fn ends(rt: &impl Abort, state: OutState, wire: Wire<'_>) -> OutOver {
-    match state.step(&wire, 0) {
+fn ends(rt: &impl Abort, state: OutState, means: &Means) -> OutOver {
+    match state.step(&wire(rt, means), 0) {
         Stepped::On(state) => {
             let _ = state.overrun();
             panic!(rt; "the message goes on")
@@ -62,145 +88,68 @@ fn ends(rt: &impl Abort, state: OutState, wire: Wire<'_>) -> OutOver {
     }
 }
 
-fn pump(rt: &impl Abort, state: &mut OutState, message: &[u8], now: u64, queue: &mut TxQueue) {
-    holds(
-        rt,
-        message.len() == state.len() as usize && queue.free() >= 8,
-    );
-    state.pump(message, now, queue);
+fn pumps(
+    rt: &impl Abort,
+    state: &mut OutState,
+    queue: &mut TxQueue,
+    packets: &[Shown; 2],
+    now: u64,
+    are_queued: bool,
+) -> bool {
+    holds(rt, state.len() == 9 && queue.free() >= 8);
+    state.pump(&NINE, now, queue);
+    if !are_queued {
+        return queue.is_empty();
+    }
+    is_shown(&queue.pop(), &Some(packets[0]))
+        && is_shown(&queue.pop(), &Some(packets[1]))
+        && queue.is_empty()
 }
 
-fn is_frame(frame: &Frame, id: u32, bytes: [u8; 8]) -> bool {
-    frame.id().raw() == id && frame.bytes() == bytes.as_slice()
-}
-
-fn is_shown(frame: Option<Frame>, id: u32, bytes: [u8; 8]) -> bool {
-    let Some(frame) = frame else {
-        return false;
+// What a step leaves of the message, and whether it does, or shows, what it says.
+fn next(
+    rt: &impl Abort,
+    mut state: OutState,
+    queue: &mut TxQueue,
+    packets: &[Shown; 2],
+    step: &Step,
+) -> (OutState, bool) {
+    let so = match step {
+        Step::On(means) => return (goes_on(rt, state, means), true),
+        Step::Take(means, now, ending) => state.take(&wire(rt, means), *now) == *ending,
+        Step::Pump(now, are_queued) => pumps(rt, &mut state, queue, packets, *now, *are_queued),
+        Step::Due(now) => state.is_due(*now) && !state.is_due(now.saturating_sub(1)),
+        Step::Idle => !state.is_due(u64::MAX),
     };
-    is_frame(&frame, id, bytes)
+    (state, so)
 }
 
-/// Whether just both packets of the nine bytes are queued, which are taken out.
-fn are_both_packets(queue: &mut TxQueue, id: u32) -> bool {
-    is_shown(queue.pop(), id, PACKET_1) && is_shown(queue.pop(), id, PACKET_2) && queue.is_empty()
+// Ends the test at the first step that isn't so, and prints its place in the table.
+fn play(
+    rt: &impl Abort,
+    mut state: OutState,
+    queue: &mut TxQueue,
+    packets: &[Shown; 2],
+    steps: &[Step],
+) -> OutState {
+    for (place, step) in steps.iter().enumerate() {
+        let (left, so) = next(rt, state, queue, packets, step);
+        same(rt, (place, so), (place, true));
+        state = left;
+    }
+    state
 }
 
-/// Whether the message ended so, with an abort of this reason.
-fn is_over(over: OutOver, outcome: Outcome, id: u32, reason: u8) -> bool {
-    let Some(frame) = over.frame else {
-        return false;
-    };
-    over.outcome == outcome && is_frame(&frame, id, [0xFF, reason, 0xFF, 0xFF, 0xFF, 0xCA, 0xFE, 0])
-}
-
-#[test]
-fn nine_bytes_are_acknowledged(rt: HostRuntime) {
-    let pgn = got(&rt, Pgn::new(0xFECA));
-    let mut queue = got(&rt, TxQueue::new(rt.alloc()));
-    let (state, rts) = begun(&rt, PEER, pgn);
-    holds(
-        &rt,
-        is_frame(&rts, 0x1CEC_3521, [0x10, 9, 0, 2, 0xFF, 0xCA, 0xFE, 0]),
-    );
-    holds(
-        &rt,
-        state.is_of(Kind::Tp, pgn.field()) && !state.is_of(Kind::Etp, pgn.field()),
-    );
-    let state = goes_on(&rt, state, end(9, 2, pgn));
-    let mut state = goes_on(&rt, state, cts(2, 1, pgn));
-    pump(&rt, &mut state, &NINE, 0, &mut queue);
-    holds(&rt, are_both_packets(&mut queue, 0x1CEB_3521));
-    let state = goes_on(&rt, state, end(10, 2, pgn));
-    let mut state = goes_on(&rt, state, end(9, 3, pgn));
-    pump(&rt, &mut state, &NINE, 0, &mut queue);
-    holds(&rt, queue.is_empty());
-    let over = ends(&rt, state, end(9, 2, pgn));
-    holds(
-        &rt,
-        over.outcome == Outcome::Acknowledged && over.frame.is_none(),
-    );
-}
-
-#[test]
-fn cts_during_a_transfer(rt: HostRuntime) {
-    let pgn = got(&rt, Pgn::new(0xFECA));
-    let state = goes_on(&rt, nine_bytes_to(&rt, FOREIGN, pgn), cts(2, 1, pgn));
-    holds(&rt, !state.is_due(u64::MAX));
-    let state = goes_on(&rt, state, cts(2, 1, pgn));
-    let over = ends(&rt, state, cts(1, 1, pgn));
-    holds(&rt, is_over(over, Outcome::Aborted(4), 0x1CEC_8021, 4));
-}
-
-#[test]
-fn frames_are_taken_where_the_state_stands(rt: HostRuntime) {
-    let (pgn, other) = (
-        got(&rt, Pgn::new(0xFECA)).field(),
-        got(&rt, Pgn::new(0xFECB)).field(),
-    );
-    let mut queue = got(&rt, TxQueue::new(rt.alloc()));
-    let mut state = nine_bytes_to(&rt, FOREIGN, got(&rt, Pgn::new(0xFECA)));
-    let of = |granted, next, pgn| Wire::Cm(CmFrame::Cts { granted, next, pgn });
-    let all = Wire::Cm(CmFrame::EndOfMsgAck {
-        size: 9,
-        packets: 2,
-        pgn,
-    });
-    let foreign = [
-        state.take(&of(2, 1, other), 3),
-        state.take(&Wire::Request { pgn }, 3),
-        state.take(&all, 3),
-    ];
-    same(&rt, foreign, [None, None, None]);
-    let skipped = state.take(&of(1, 2, pgn), 3);
-    same(&rt, skipped, Some(Ending::Abort(AbortReason::Other)));
-    holds(&rt, !state.is_due(1249) && state.is_due(1250));
-    same(&rt, state.take(&of(0, 1, pgn), 300), None);
-    holds(&rt, !state.is_due(1349) && state.is_due(1350));
-    let granted = [
-        state.take(&of(2, 1, pgn), 400),
-        state.take(&of(2, 1, pgn), 400),
-    ];
-    same(&rt, granted, [None, None]);
-    let during = state.take(&of(1, 1, pgn), 400);
-    same(
-        &rt,
-        during,
-        Some(Ending::Abort(AbortReason::CtsDuringTransfer)),
-    );
-    pump(&rt, &mut state, &NINE, 400, &mut queue);
-    holds(&rt, are_both_packets(&mut queue, 0x1CEB_8021));
-    same(&rt, state.take(&all, 500), Some(Ending::Acknowledged));
-    let over = state.end(Ending::Aborted(2));
-    same(&rt, (over.outcome, over.frame), (Outcome::Aborted(2), None));
-}
-
-#[test]
-fn timers(rt: HostRuntime) {
-    let pgn = got(&rt, Pgn::new(0xFECA));
-    let mut queue = got(&rt, TxQueue::new(rt.alloc()));
-    let (state, _rts) = begin(Kind::Tp, OWN, FOREIGN, pgn, 9, 0);
-    holds(&rt, !state.is_due(1249) && state.is_due(1250));
-    holds(
-        &rt,
-        is_over(state.expire(), Outcome::TimedOut, 0x1CEC_8021, 3),
-    );
-    let held = goes_on(&rt, nine_bytes_to(&rt, FOREIGN, pgn), cts(0, 1, pgn));
-    holds(&rt, !held.is_due(1049));
-    holds(&rt, held.is_due(1050));
-    holds(
-        &rt,
-        is_over(held.expire(), Outcome::TimedOut, 0x1CEC_8021, 3),
-    );
-    let mut state = goes_on(&rt, nine_bytes_to(&rt, FOREIGN, pgn), cts(2, 1, pgn));
-    pump(&rt, &mut state, &NINE, 7, &mut queue);
+fn expire_stage(rt: &impl Abort, state: OutState, now: u64) -> OutOver {
+    let before = now.saturating_sub(1);
     match state {
+        OutState::AwaitCts(state) => {
+            holds(rt, state.is_due(now) && !state.is_due(before));
+            state.expire()
+        }
         OutState::AwaitEnd(state) => {
-            holds(&rt, !state.is_due(1256) && state.is_due(1257));
-            holds(
-                &rt,
-                is_over(state.expire(), Outcome::TimedOut, 0x1CEC_8021, 3),
-            );
+            holds(rt, state.is_due(now) && !state.is_due(before));
+            state.expire()
         }
         other => {
             let _ = other.overrun();
@@ -209,19 +158,185 @@ fn timers(rt: HostRuntime) {
     }
 }
 
+fn ended(rt: &impl Abort, state: OutState, end: &End) -> OutOver {
+    match end {
+        End::Step(means) => ends(rt, state, means),
+        End::Expire => state.expire(),
+        End::ExpireStage(now) => expire_stage(rt, state, *now),
+        End::Cancel => state.cancel(),
+        End::Abort(reason) => state.abort(*reason),
+        End::Overrun => state.overrun(),
+        End::End(ending) => state.end(*ending),
+    }
+}
+
+fn is_over(over: &OutOver, outcome: Outcome, frame: &Option<Shown>) -> bool {
+    over.outcome == outcome && is_shown(&over.frame, frame)
+}
+
+// A message begins at tick 0 with its request to send.
+fn is_begun(rt: &impl Abort, state: AwaitCts, frame: Frame, rts: &Shown) -> OutState {
+    holds(rt, is_frame(&frame, rts));
+    OutState::AwaitCts(state)
+}
+
+fn begun(rt: &impl Abort, (to, rts, _): &To) -> OutState {
+    let pgn = pgn(rt, FECA);
+    holds(rt, to.is_one());
+    let (state, frame) = begin(Kind::Tp, OWN, *to, pgn, 9, 0);
+    let state = is_begun(rt, state, frame, rts);
+    holds(
+        rt,
+        state.is_of(Kind::Tp, pgn.field()) && !state.is_of(Kind::Etp, pgn.field()),
+    );
+    state
+}
+
+// A message does all this, and ends so.
+fn does(rt: &impl Abort, alloc: Global, to: &To, steps: &[Step], (end, outcome, frame): &Over) {
+    let mut queue = got(rt, TxQueue::new(alloc));
+    let state = play(rt, begun(rt, to), &mut queue, &to.2, steps);
+    holds(rt, is_over(&ended(rt, state, end), *outcome, frame));
+}
+
+const GRANT: Means = Means::Cm(Cm::Cts(2, 1));
+
+const HOLD: Means = Means::Cm(Cm::Cts(0, 1));
+
+const ALL: Means = Means::Cm(Cm::End(9, 2));
+
+// An end of message acknowledgement before its time, and those of other sizes, change nothing.
+const NINE_BYTES: [Step; 6] = [
+    Step::On(ALL),
+    Step::On(GRANT),
+    Step::Pump(0, true),
+    Step::On(Means::Cm(Cm::End(10, 2))),
+    Step::On(Means::Cm(Cm::End(9, 3))),
+    Step::Pump(0, false),
+];
+
+const ACKNOWLEDGED: Over = (End::Step(ALL), Outcome::Acknowledged, None);
+
+#[test]
+fn nine_bytes_are_acknowledged(rt: HostRuntime) {
+    does(&rt, rt.alloc(), &TO_35, &NINE_BYTES, &ACKNOWLEDGED);
+}
+
+const GRANTED_TWICE: [Step; 3] = [Step::On(GRANT), Step::Idle, Step::On(GRANT)];
+
+const DURING: Over = (
+    End::Step(Means::Cm(Cm::Cts(1, 1))),
+    Outcome::Aborted(4),
+    Some((0x1CEC_8021, [0xFF, 4, 0xFF, 0xFF, 0xFF, 0xCA, 0xFE, 0])),
+);
+
+#[test]
+fn cts_during_a_transfer(rt: HostRuntime) {
+    does(&rt, rt.alloc(), &TO_80, &GRANTED_TWICE, &DURING);
+}
+
+// Frames of another message, of no connection and before their time change nothing, nor does a CTS that skips a packet or comes during a
+// transfer.
+const IN_PLACE: [Step; 12] = [
+    Step::Take(Means::CmOfOther(Cm::Cts(2, 1)), 3, None),
+    Step::Take(Means::Request(FECA), 3, None),
+    Step::Take(ALL, 3, None),
+    Step::Take(
+        Means::Cm(Cm::Cts(1, 2)),
+        3,
+        Some(Ending::Abort(AbortReason::Other)),
+    ),
+    Step::Due(1250),
+    Step::Take(HOLD, 300, None),
+    Step::Due(1350),
+    Step::Take(GRANT, 400, None),
+    Step::Take(GRANT, 400, None),
+    Step::Take(
+        Means::Cm(Cm::Cts(1, 1)),
+        400,
+        Some(Ending::Abort(AbortReason::CtsDuringTransfer)),
+    ),
+    Step::Pump(400, true),
+    Step::Take(ALL, 500, Some(Ending::Acknowledged)),
+];
+
+const ABORTED: Over = (End::End(Ending::Aborted(2)), Outcome::Aborted(2), None);
+
+#[test]
+fn frames_are_taken_where_the_state_stands(rt: HostRuntime) {
+    does(&rt, rt.alloc(), &TO_80, &IN_PLACE, &ABORTED);
+}
+
+const TIMEOUT: Option<Shown> = Some((0x1CEC_8021, [0xFF, 3, 0xFF, 0xFF, 0xFF, 0xCA, 0xFE, 0]));
+
+const WITHOUT_A_CTS: Over = (End::ExpireStage(1250), Outcome::TimedOut, TIMEOUT);
+
+const ON_HOLD: [Step; 2] = [Step::On(HOLD), Step::Due(1050)];
+
+const AFTER_A_HOLD: Over = (End::Expire, Outcome::TimedOut, TIMEOUT);
+
+const SENT_AT_7: [Step; 2] = [Step::On(GRANT), Step::Pump(7, true)];
+
+const WITHOUT_AN_END: Over = (End::ExpireStage(1257), Outcome::TimedOut, TIMEOUT);
+
+#[test]
+fn timers(rt: HostRuntime) {
+    does(&rt, rt.alloc(), &TO_80, &[], &WITHOUT_A_CTS);
+    does(&rt, rt.alloc(), &TO_80, &ON_HOLD, &AFTER_A_HOLD);
+    does(&rt, rt.alloc(), &TO_80, &SENT_AT_7, &WITHOUT_AN_END);
+}
+
+const OUTSIDE: [Over; 3] = [
+    (
+        End::Cancel,
+        Outcome::Cancelled,
+        Some((0x1CEC_8021, [0xFF, 250, 0xFF, 0xFF, 0xFF, 0xCA, 0xFE, 0])),
+    ),
+    (End::Abort(2), Outcome::Aborted(2), None),
+    (End::Overrun, Outcome::Overrun, None),
+];
+
 #[test]
 fn ends_from_outside(rt: HostRuntime) {
-    let pgn = got(&rt, Pgn::new(0xFECA));
-    let over = nine_bytes_to(&rt, FOREIGN, pgn).cancel();
-    holds(&rt, is_over(over, Outcome::Cancelled, 0x1CEC_8021, 250));
-    let over = nine_bytes_to(&rt, FOREIGN, pgn).abort(2);
-    holds(
-        &rt,
-        over.outcome == Outcome::Aborted(2) && over.frame.is_none(),
-    );
-    let over = nine_bytes_to(&rt, FOREIGN, pgn).overrun();
-    holds(
-        &rt,
-        over.outcome == Outcome::Overrun && over.frame.is_none(),
-    );
+    for end in &OUTSIDE {
+        does(&rt, rt.alloc(), &TO_80, &[], end);
+    }
+}
+
+const LARGEST: Shown = (
+    0x1CC8_3521,
+    [0x14, 0xF9, 0xFF, 0xFF, 0x06, 0xCA, 0xFE, 0x00],
+);
+
+// Each transport begins a message of its own, the extended one its largest.
+#[test]
+fn a_message_is_sent_by_its_rts(rt: HostRuntime) {
+    let pgn = pgn(&rt, FECA);
+    let (state, rts) = tp_session::begin(OWN, PEER, pgn, 9, 0);
+    let nine = is_begun(&rt, state, rts, &TO_35.1).overrun();
+    let (state, rts) = etp_session::begin(OWN, PEER, pgn, ETP_MAX_SIZE, 0);
+    let largest = is_begun(&rt, state, rts, &LARGEST).overrun();
+    same(&rt, [nine.outcome, largest.outcome], [Outcome::Overrun; 2]);
+}
+
+const TAKEN: [Step; 1] = [Step::Take(GRANT, 1, None)];
+
+const PUMPED: [Step; 1] = [Step::Pump(2, true)];
+
+// The message equals its image until these steps.
+fn until(rt: &impl Abort, state: OutState, queue: &mut TxQueue, steps: &[Step]) -> OutState {
+    let image = state.image();
+    let before = image.is_of(&state);
+    let state = play(rt, state, queue, &TO_35.2, steps);
+    same(rt, (before, image.is_of(&state)), (true, false));
+    state
+}
+
+#[test]
+fn a_connection_and_its_image(rt: HostRuntime) {
+    let mut queue = got(&rt, TxQueue::new(rt.alloc()));
+    let state = until(&rt, begun(&rt, &TO_35), &mut queue, &TAKEN);
+    let state = until(&rt, state, &mut queue, &PUMPED);
+    holds(&rt, state.image().is_of(&state));
+    let _over = state.overrun();
 }

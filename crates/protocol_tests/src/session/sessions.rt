@@ -1,53 +1,29 @@
-//! Tables of sessions whose timers all start at tick 0. If memory is refused once, the call is made again, so that each test passes whichever
-//! allocation fails. The steps of a test are a table, which one function plays: a table needs no proof, and each call in a test does.
+//! Tables of sessions whose timers all start at tick 0. The steps of a test are a table, which one function plays: a table needs no proof, and
+//! each call in a test does. If memory is refused as a session is opened, it is opened again; anywhere else a test ends.
 ghost use Rattle.std.specs.Prelude.{◌≡◌, None};
 ghost use Rattle.session_table.specs.Sessions.{IsHeld, state_at};
-ghost use Rattle.seg_cut.specs.Join.{with_room};
 
 use crate::checks::{got, holds, same};
-use crate::session::frames::{Packet, wire_pgn};
+use crate::means::{FECA, FIRST, LAST, Packet, wire_pgn};
 use bam_session::BamIn;
 use pgn_ids::{Address, WirePgn};
 use responder::{Flow, Left, Peer};
 use seg_cut::Join;
 use session_table::*;
-use std::alloc::{AllocError, Global};
+use std::alloc::Global;
 use std::process::Abort;
 use tp_wire::constants::ETP_MAX_WINDOW;
 use tp_wire::{AbortReason, Kind, Wire};
 use tx_queue::TxQueue;
 
-const FECA: u32 = 0xFECA;
-
 const FROM: Address = Address(0x80);
 
 const TO: Address = Address(0x35);
-
-const FIRST: Packet = Packet {
-    kind: Kind::Tp,
-    sequence: 1,
-    bytes: [1, 2, 3, 4, 5, 6, 7],
-};
-
-const LAST: Packet = Packet {
-    kind: Kind::Tp,
-    sequence: 2,
-    bytes: [1, 2, 3, 4, 5, 6, 7],
-};
 
 fn key(source: u8, kind: SessionKind) -> Key {
     Key {
         source: Address(source),
         kind,
-    }
-}
-
-// Makes room for so many packets, at the second try if memory is refused.
-fn make_room(rt: &impl Abort, join: &mut Join, packets: u32)
-    ensures { join.new ≡ with_room join.old packets }
-{
-    if join.make_room(packets).is_err() {
-        got(rt, join.make_room(packets));
     }
 }
 
@@ -63,20 +39,20 @@ fn begun(rt: &impl Abort, alloc: Global, kind: SessionKind, pgn: u32) -> Incomin
 
 fn broadcast(rt: &impl Abort, alloc: Global, pgn: WirePgn) -> Incoming {
     let mut join = Join::new(alloc, 9);
-    make_room(rt, &mut join, 2);
+    got(rt, join.make_room(2));
     Incoming::Broadcast(BamIn::begin(FROM, pgn, join, 0))
 }
 
 fn connection(rt: &impl Abort, alloc: Global, pgn: WirePgn) -> Incoming {
     let mut join = Join::new(alloc, 9);
-    make_room(rt, &mut join, 2);
+    got(rt, join.make_room(2));
     let (state, _cts) = tp_session::accept(Peer::new(FROM, TO, pgn), 0, join, Flow::Open, 0);
     Incoming::Connection(state.into_receiver())
 }
 
 fn extended_connection(rt: &impl Abort, alloc: Global, pgn: WirePgn) -> Incoming {
     let mut join = Join::new(alloc, 1786);
-    make_room(rt, &mut join, u32::from(ETP_MAX_WINDOW));
+    got(rt, join.make_room(u32::from(ETP_MAX_WINDOW)));
     let (state, _cts) = etp_session::accept(Peer::new(FROM, TO, pgn), join, Flow::Open, 0);
     Incoming::Connection(state.into_receiver())
 }
@@ -226,17 +202,9 @@ fn is_so(
     }
 }
 
-// A queue, at the second try if memory is refused.
-fn new_queue(rt: &impl Abort, alloc: Global) -> TxQueue {
-    match TxQueue::new(alloc) {
-        Ok(queue) => queue,
-        Err(_) => got(rt, TxQueue::new(alloc)),
-    }
-}
-
 // Ends the test at the first step that isn't so, and prints its place in the table. No step queues a frame.
 fn play(rt: &impl Abort, alloc: Global, table: &mut SessionTable<u8>, steps: &[Step]) {
-    let mut queue = new_queue(rt, alloc);
+    let mut queue = got(rt, TxQueue::new(alloc));
     for (place, step) in steps.iter().enumerate() {
         let so = is_so(rt, alloc, table, &mut queue, step);
         same(rt, (place, so, queue.is_empty()), (place, true, true));
@@ -339,15 +307,18 @@ fn a_silent_session_is_to_be_ended(rt: HostRuntime) {
 }
 
 // A full table hands a session back with what it was to be bound to.
-fn is_refused(rt: &impl Abort, table: &mut SessionTable<u8>, key: Key, bound: u8, state: Incoming) {
-    holds(rt, !table.contains(key));
-    match table.open(key, bound, state) {
-        Err(OpenRefused::TableFull(back, state)) => {
-            same(rt, (back, state.pgn().raw()), (bound, FECA));
-            state.overrun();
-        }
+fn handed_back(rt: &impl Abort, opened: Result<(), OpenRefused<u8>>) -> (u8, Incoming) {
+    match opened {
+        Err(OpenRefused::TableFull(bound, state)) => (bound, state),
         _ => panic!(rt; "not full"),
     }
+}
+
+fn is_refused(rt: &impl Abort, table: &mut SessionTable<u8>, key: Key, state: Incoming) {
+    holds(rt, !table.contains(key));
+    let (bound, state) = handed_back(rt, table.open(key, 7, state));
+    holds(rt, bound == 7 && state.pgn().raw() == FECA);
+    state.overrun();
 }
 
 #[test]
@@ -357,8 +328,18 @@ fn the_33rd_is_refused(rt: HostRuntime) {
         open(&rt, rt.alloc(), &mut table, key(source, SessionKind::Tp));
     }
     let state = begun(&rt, rt.alloc(), SessionKind::Tp, FECA);
-    is_refused(&rt, &mut table, key(32, SessionKind::Tp), 7, state);
+    is_refused(&rt, &mut table, key(32, SessionKind::Tp), state);
     same(&rt, table.len(), 32);
+}
+
+// Whether it is the session that took the place, and what this was bound to.
+fn is_next(found: Option<(&u8, &Incoming)>) -> bool {
+    match found {
+        Some((bound, state)) => {
+            *bound == 9 && state.kind() == SessionKind::Tp && state.pgn().raw() == 0xEF00
+        }
+        None => false,
+    }
 }
 
 #[test]
@@ -375,21 +356,15 @@ fn a_new_session_takes_the_place(rt: HostRuntime) {
         (None, None),
     );
     table.put_back(held, 9, next);
-    let there = table
-        .get(key)
-        .map(|(bound, state)| (*bound, state.kind(), state.pgn().raw()));
-    same(&rt, there, Some((9, SessionKind::Tp, 0xEF00)));
+    holds(&rt, is_next(table.get(key)));
 }
 
-// The image of the state at a key, at the second try if memory is refused.
+// The image of the state at a key.
 fn image_at(rt: &impl Abort, alloc: Global, table: &SessionTable<u8>, key: Key) -> IncomingImage {
     let Some((_bound, state)) = table.get(key) else {
         panic!(rt; "nothing at the key")
     };
-    match state.image(alloc) {
-        Ok(image) => image,
-        Err(_) => got(rt, state.image(alloc)),
-    }
+    got(rt, state.image(alloc))
 }
 
 fn is_at(image: &IncomingImage, table: &SessionTable<u8>, key: Key) -> bool {
@@ -419,18 +394,18 @@ fn an_image_is_of_a_session_as_it_was(rt: HostRuntime) {
     until(&rt, rt.alloc(), TP, &OF_TP);
 }
 
-// Which keys an image has, and what those that aren't held are bound to.
-fn bound(alloc: Global, table: &SessionTable<u8>) -> Result<Vec<(Key, Option<u8>)>, AllocError> {
-    let image = table.image(alloc)?;
-    let mut bound = Vec::new(alloc);
-    for entry in image.entries() {
-        let to = match &entry.1 {
-            Some((to, _state)) => Some(*to),
-            None => None,
+// Whether an image has just these keys, each with a state that is bound to the number of its source.
+fn has_keys(image: &TableImage<u8>, keys: &[Key]) -> bool {
+    for (place, (key, content)) in image.entries().iter().enumerate() {
+        let is_bound = match content {
+            Some((bound, _state)) => *bound == key.source.0,
+            None => false,
         };
-        bound.push((entry.0, to))?;
+        if !is_bound || keys.get(place) != Some(key) {
+            return false;
+        }
     }
-    Ok(bound)
+    image.entries().len() == keys.len()
 }
 
 #[test]
@@ -438,10 +413,6 @@ fn an_image_has_each_key(rt: HostRuntime) {
     let mut table = SessionTable::new(rt.alloc());
     open(&rt, rt.alloc(), &mut table, ETP);
     open(&rt, rt.alloc(), &mut table, TP_OF_90);
-    let kept = match bound(rt.alloc(), &table) {
-        Ok(kept) => kept,
-        Err(_) => got(&rt, bound(rt.alloc(), &table)),
-    };
-    let both = [(ETP, Some(0x80)), (TP_OF_90, Some(0x90))];
-    same(&rt, kept.as_slice(), both.as_slice());
+    let image = got(&rt, table.image(rt.alloc()));
+    holds(&rt, has_keys(&image, &[ETP, TP_OF_90]));
 }

@@ -5,20 +5,18 @@ mod connections;
 mod doubts;
 
 use crate::checks::{got, holds, same};
-use crate::station::frames::{frame, pgn, wire_pgn};
+use crate::means::{FECA, Means, frame, pgn, wire, wire_pgn};
 use bus_frame::Frame;
 use lane_core::*;
 use pgn_ids::Address;
 use std::alloc::{AllocError, Global};
 use std::process::Abort;
-use tp_wire::{CmFrame, Outcome, Wire};
+use tp_wire::Outcome;
 use tx_queue::TxQueue;
 
 const FROM: Address = Address(0x21);
 
 const M9: [u8; 9] = [1, 2, 3, 4, 5, 6, 7, 8, 9];
-
-const FECA: u32 = 0xFECA;
 
 // What 21 sends to 35 and to 80 in TP.CM, and its packets to them.
 const CM_TO_35: u32 = 0x1CEC_3521;
@@ -39,16 +37,6 @@ const RTS: [u8; 8] = [0x10, 9, 0, 2, 0xFF, 0xCA, 0xFE, 0];
 const FIRST: [u8; 8] = [1, 1, 2, 3, 4, 5, 6, 7];
 
 const LAST: [u8; 8] = [2, 8, 9, 0xFF, 0xFF, 0xFF, 0xFF, 0xFF];
-
-/// A frame that a lane hears: granted and next of a CTS, the end of message acknowledgement of nine bytes, the reason of an abort.
-enum Heard {
-    Cts(u8, u8),
-    End,
-    Abort(u8),
-    AbortOfOther(u8),
-    EtpCts(u8, u32),
-    EtpAbort(u8),
-}
 
 /// What a call leaves: what it queues, and the message that it ends.
 enum Left {
@@ -76,7 +64,7 @@ enum Step {
     /// The same of 1,786 bytes.
     PushLong(u64),
     /// A frame is heard at this moment.
-    Hear(Heard, u64, Left),
+    Hear(Means, u64, Left),
     Pump(u64, Left),
     /// A pump is refused, and would do nothing.
     Refuse(u64, PumpRefused),
@@ -93,39 +81,6 @@ enum Step {
     QueuesAbort(u64, bool),
     /// How many messages wait.
     Waiting(usize),
-}
-
-fn cm_frame(rt: &impl Abort, frame: &Heard) -> CmFrame {
-    let pgn = wire_pgn(rt, FECA);
-    match frame {
-        Heard::Cts(granted, next) => CmFrame::Cts {
-            granted: *granted,
-            next: *next,
-            pgn,
-        },
-        Heard::End => CmFrame::EndOfMsgAck {
-            size: 9,
-            packets: 2,
-            pgn,
-        },
-        Heard::Abort(reason) => CmFrame::Abort {
-            reason: *reason,
-            pgn,
-        },
-        Heard::AbortOfOther(reason) => CmFrame::Abort {
-            reason: *reason,
-            pgn: wire_pgn(rt, 0xFECB),
-        },
-        Heard::EtpCts(granted, next) => CmFrame::EtpCts {
-            granted: *granted,
-            next: *next,
-            pgn,
-        },
-        Heard::EtpAbort(reason) => CmFrame::EtpAbort {
-            reason: *reason,
-            pgn,
-        },
-    }
 }
 
 // The frames in front of the queue, how many there are, and the message that ends.
@@ -214,12 +169,12 @@ fn hears(
     rt: &impl Abort,
     lane: &mut Lane,
     queue: &mut TxQueue,
-    frame: &Heard,
+    means: &Means,
     now: u64,
     left: &Left,
 ) -> bool {
     holds(rt, queue.is_empty());
-    let ended = lane.hear(&Wire::Cm(cm_frame(rt, frame)), now, queue);
+    let ended = lane.hear(&wire(rt, means), now, queue);
     leaves(rt, queue, ended, left)
 }
 
@@ -264,7 +219,7 @@ fn is_so(
     match step {
         Step::Push(number) => got(rt, push(rt, alloc, lane, 9)) == *number,
         Step::PushLong(number) => got(rt, push(rt, alloc, lane, 1786)) == *number,
-        Step::Hear(frame, now, left) => hears(rt, lane, queue, frame, *now, left),
+        Step::Hear(means, now, left) => hears(rt, lane, queue, means, *now, left),
         Step::Pump(now, left) => pumps(rt, lane, queue, *now, left),
         Step::Refuse(now, cause) => refuses(rt, lane, queue, *now, *cause),
         Step::Fire(now, left) => fires(rt, lane, queue, *now, left),

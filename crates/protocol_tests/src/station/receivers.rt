@@ -1,8 +1,7 @@
 //! Messages to all from 21, received at the ports 35.1 and 35.2, step by step. The steps of a test are a table, which one function plays: a
 //! table needs no proof, and each call in a test does. A test ends if memory is refused.
 use crate::checks::{got, holds, same};
-use crate::session::frames::Packet;
-use crate::station::frames::{pgn, wire_pgn};
+use crate::means::{FECA, FIRST, LAST, Packet, pgn, wire_pgn};
 use bam_session::BamIn;
 use bus_frame::Frame;
 use message_events::{Event, Events};
@@ -16,23 +15,9 @@ use std::process::Abort;
 use tp_wire::{Kind, Wire};
 use tx_queue::TxQueue;
 
-const FECA: u32 = 0xFECA;
-
 const KEY: Key = Key {
     source: Address(0x21),
     kind: SessionKind::Broadcast,
-};
-
-const FIRST: Packet = Packet {
-    kind: Kind::Tp,
-    sequence: 1,
-    bytes: [1, 2, 3, 4, 5, 6, 7],
-};
-
-const LAST: Packet = Packet {
-    kind: Kind::Tp,
-    sequence: 2,
-    bytes: [8, 9, 255, 255, 255, 255, 255],
 };
 
 fn two_ports(rt: &impl Abort, alloc: Global) -> PortTable {

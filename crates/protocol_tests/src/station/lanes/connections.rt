@@ -1,7 +1,6 @@
 //! Connections: packets that are sent again, aborts and missed frames.
-use super::{
-    CM_TO_35, CM_TO_80, DT_TO_80, Heard, Left, REQUEST_TO_35, REQUEST_TO_80, RTS, Step, does,
-};
+use super::{CM_TO_35, CM_TO_80, DT_TO_80, Left, REQUEST_TO_35, REQUEST_TO_80, RTS, Step, does};
+use crate::means::{Cm, Means};
 use pgn_ids::Address;
 use tp_wire::Outcome;
 
@@ -9,14 +8,14 @@ const SENT_AGAIN: [Step; 11] = [
     Step::Push(1),
     Step::Push(2),
     Step::Pump(0, Left::Queued(CM_TO_80, RTS)),
-    Step::Hear(Heard::Cts(2, 1), 0, Left::Nothing),
+    Step::Hear(Means::Cm(Cm::Cts(2, 1)), 0, Left::Nothing),
     Step::Pump(0, Left::Packets(DT_TO_80)),
-    Step::Hear(Heard::Cts(2, 1), 0, Left::Nothing),
+    Step::Hear(Means::Cm(Cm::Cts(2, 1)), 0, Left::Nothing),
     Step::Pump(0, Left::Packets(DT_TO_80)),
-    Step::Hear(Heard::Cts(2, 1), 0, Left::Nothing),
+    Step::Hear(Means::Cm(Cm::Cts(2, 1)), 0, Left::Nothing),
     Step::Pump(0, Left::Packets(DT_TO_80)),
     Step::Hear(
-        Heard::Cts(2, 1),
+        Means::Cm(Cm::Cts(2, 1)),
         0,
         Left::Aborted(CM_TO_80, 5, 1, Outcome::Aborted(5)),
     ),
@@ -32,7 +31,7 @@ const SKIPPED: [Step; 3] = [
     Step::Push(1),
     Step::Pump(0, Left::Queued(CM_TO_80, RTS)),
     Step::Hear(
-        Heard::Cts(1, 2),
+        Means::Cm(Cm::Cts(1, 2)),
         0,
         Left::Aborted(CM_TO_80, 250, 1, Outcome::Aborted(250)),
     ),
@@ -47,9 +46,13 @@ fn a_packet_cannot_be_skipped(rt: HostRuntime) {
 const ABORTED: [Step; 5] = [
     Step::Push(1),
     Step::Pump(0, Left::Queued(CM_TO_35, RTS)),
-    Step::Hear(Heard::AbortOfOther(2), 0, Left::Nothing),
-    Step::Hear(Heard::EtpAbort(2), 0, Left::Nothing),
-    Step::Hear(Heard::Abort(2), 0, Left::Ended(1, Outcome::Aborted(2))),
+    Step::Hear(Means::CmOfOther(Cm::Abort(2)), 0, Left::Nothing),
+    Step::Hear(Means::Cm(Cm::EtpAbort(2)), 0, Left::Nothing),
+    Step::Hear(
+        Means::Cm(Cm::Abort(2)),
+        0,
+        Left::Ended(1, Outcome::Aborted(2)),
+    ),
 ];
 
 #[test]
@@ -64,7 +67,7 @@ const MISSED: [Step; 7] = [
         0,
         Left::Queued(0x1CC8_3521, [0x14, 0xFA, 6, 0, 0, 0xCA, 0xFE, 0]),
     ),
-    Step::Hear(Heard::EtpCts(64, 1), 0, Left::Nothing),
+    Step::Hear(Means::Cm(Cm::EtpCts(64, 1)), 0, Left::Nothing),
     Step::Pump(
         0,
         Left::Window(0x1CC8_3521, [0x16, 0x40, 0, 0, 0, 0xCA, 0xFE, 0]),

@@ -1,7 +1,6 @@
 //! A lane in doubt: how it settles, and how it becomes unreachable.
-use super::{
-    CM_TO_35, CM_TO_80, DT_TO_35, Heard, Left, REQUEST_TO_35, REQUEST_TO_80, RTS, Step, does,
-};
+use super::{CM_TO_35, CM_TO_80, DT_TO_35, Left, REQUEST_TO_35, REQUEST_TO_80, RTS, Step, does};
+use crate::means::{Cm, Means};
 use lane_core::*;
 use pgn_ids::Address;
 use tp_wire::Outcome;
@@ -15,13 +14,13 @@ const SETTLED: [Step; 32] = [
     Step::Push(3),
     Step::Pump(0, Left::Queued(CM_TO_35, RTS)),
     Step::Refuse(0, PumpRefused::NothingToSend),
-    Step::Hear(Heard::End, 0, Left::Nothing),
-    Step::Hear(Heard::Cts(2, 1), 0, Left::Nothing),
+    Step::Hear(Means::Cm(Cm::End(9, 2)), 0, Left::Nothing),
+    Step::Hear(Means::Cm(Cm::Cts(2, 1)), 0, Left::Nothing),
     Step::Pump(0, Left::Packets(DT_TO_35)),
     Step::Due(1249, false),
     Step::Fire(1250, Left::Aborted(CM_TO_35, 3, 1, Outcome::TimedOut)),
     Step::Pump(1250, Left::Request(REQUEST_TO_35, 0xEC)),
-    Step::Hear(Heard::End, 1250, Left::Nothing),
+    Step::Hear(Means::Cm(Cm::End(9, 2)), 1250, Left::Nothing),
     Step::Refuse(1250, PumpRefused::NothingToSend),
     Step::Fire(2500, Left::Request(REQUEST_TO_35, 0xEC)),
     Step::Overrun(Left::Nothing),
@@ -36,10 +35,14 @@ const SETTLED: [Step; 32] = [
     Step::Answer(0xEB00),
     Step::Pump(2500, Left::Queued(CM_TO_35, RTS)),
     Step::Refuse(2500, PumpRefused::NothingToSend),
-    Step::Hear(Heard::End, 2500, Left::Nothing),
-    Step::Hear(Heard::Cts(2, 1), 2500, Left::Nothing),
+    Step::Hear(Means::Cm(Cm::End(9, 2)), 2500, Left::Nothing),
+    Step::Hear(Means::Cm(Cm::Cts(2, 1)), 2500, Left::Nothing),
     Step::Pump(2500, Left::Packets(DT_TO_35)),
-    Step::Hear(Heard::End, 2600, Left::Ended(3, Outcome::Acknowledged)),
+    Step::Hear(
+        Means::Cm(Cm::End(9, 2)),
+        2600,
+        Left::Ended(3, Outcome::Acknowledged),
+    ),
     // The lane stays settled.
     Step::Push(4),
     Step::Pump(2600, Left::Queued(CM_TO_35, RTS)),

@@ -2,16 +2,13 @@
 //! in a test does.
 use super::{B, new_station, open};
 use crate::checks::{got, holds, same};
-use crate::station::frames::frame;
+use crate::means::{Shown, frame, is_shown};
 use bus_frame::Frame;
 use pgn_ids::read_id;
 use station_core::*;
 use std::alloc::{AllocGlobal, Global};
 use std::process::Abort;
 use tp_wire::read_in_place;
-
-// A frame by its identifier and its bytes.
-type Shown = (u32, [u8; 8]);
 
 fn frame_of(rt: &(impl Abort + AllocGlobal), shown: &Shown) -> Frame {
     frame(rt, shown.0, &shown.1)
@@ -60,9 +57,9 @@ fn answers(
     rt: &(impl Abort + AllocGlobal),
     station: &mut Station,
     shown: &Shown,
-    answer: Option<Frame>,
+    answer: &Option<Shown>,
 ) -> bool {
-    take(rt, station, shown).is_empty() && station.pop() == answer
+    take(rt, station, shown).is_empty() && is_shown(&station.pop(), answer)
 }
 
 fn wants_nine(rt: &(impl Abort + AllocGlobal), station: &Station, shown: &Shown) -> bool {
@@ -105,15 +102,12 @@ fn fires(rt: &(impl Abort + AllocGlobal), station: &mut Station, now: u64) -> bo
 // Whether a step does what it says.
 fn is_so(rt: &(impl Abort + AllocGlobal), station: &mut Station, step: &Step) -> bool {
     match step {
-        Step::Answer(shown, answer) => {
-            let answer = frame_of(rt, answer);
-            answers(rt, station, shown, Some(answer))
-        }
-        Step::Silent(shown) => answers(rt, station, shown, None),
+        Step::Answer(shown, answer) => answers(rt, station, shown, &Some(*answer)),
+        Step::Silent(shown) => answers(rt, station, shown, &None),
         Step::Malformed(shown) => is_malformed(rt, station, shown),
         Step::Pop(shown) => {
-            let frame = Some(frame_of(rt, shown));
-            station.front() == frame && station.pop() == frame
+            let frame = Some(*shown);
+            is_shown(&station.front(), &frame) && is_shown(&station.pop(), &frame)
         }
         Step::WantNine(shown) => wants_nine(rt, station, shown),
         Step::GiveNine(shown) => are_nine(&take(rt, station, shown)),

@@ -1,13 +1,85 @@
-//! What station 21 sends.
-use super::{A, B, M9, new_station, open, pumps, send, sends};
-use crate::checks::same;
+//! What station 21 sends, step by step. The steps of a test are a table, which one function plays: a table needs no proof, and each call in a
+//! test does.
+use super::{A, B, new_station, open};
+use crate::checks::{got, holds, same};
+use crate::means::{FECA, pgn};
+use message_events::Bytes;
 use pgn_ids::Address;
 use station_core::*;
-use std::alloc::{AllocGlobal, Global};
+use std::alloc::Global;
 use std::process::Abort;
 use tp_wire::Outcome;
 
-// Why each call of station 21 would be refused: at its port 1, and with its message 1 to station 35.
+const M9: [u8; 9] = [1, 2, 3, 4, 5, 6, 7, 8, 9];
+
+/// What is done with station 21, or is seen of it.
+enum Step {
+    /// A port is opened.
+    Open,
+    /// A message of up to nine bytes is sent, the first of its lane, or isn't.
+    Send(Address, usize, Option<Refused>),
+    /// The next frames to a node are queued at this tick with so many events, or aren't; so many frames are then queued.
+    Pump(Address, u64, Result<usize, Refused>, usize),
+    /// Message 1 to 35 ends as cancelled, or doesn't; so many frames are then queued.
+    Cancel(Option<Refused>, usize),
+    /// Message 1 to 35 is pending.
+    Pending,
+    /// Why each call would be refused: at port 1, and with message 1 to 35, of so many bytes.
+    Refuse(usize, [Option<Refused>; 9]),
+}
+
+fn sends(
+    rt: &impl Abort,
+    alloc: Global,
+    station: &mut Station,
+    to: Address,
+    len: usize,
+    expected: &Option<Refused>,
+) -> bool {
+    holds(rt, len <= 9);
+    let bytes = Bytes::new(got(rt, Vec::from_slice(alloc, &M9[..len])));
+    match (station.send(to, pgn(rt, FECA), bytes), expected) {
+        (Ok(number), None) => number == 1,
+        (Err(refused), Some(cause)) => refused.cause == Stopped::Refused(*cause),
+        _ => false,
+    }
+}
+
+fn pumps(
+    alloc: Global,
+    station: &mut Station,
+    to: Address,
+    now: u64,
+    expected: &Result<usize, Refused>,
+) -> bool {
+    let mut events = Events::none(alloc);
+    match station.pump(to, now, &mut events) {
+        Ok(()) => Ok(events.len()) == *expected,
+        Err(cause) => Err(cause) == *expected,
+    }
+}
+
+// Whether they are one outcome, of message 1, which was cancelled.
+fn is_cancelled(events: &Events) -> bool {
+    match events.get(0) {
+        Some(
+            Event::Outcome {
+                number,
+                outcome,
+                ..
+            },
+        ) => events.len() == 1 && *number == 1 && *outcome == Outcome::Cancelled,
+        _ => false,
+    }
+}
+
+fn cancels(station: &mut Station, expected: &Option<Refused>) -> bool {
+    match station.cancel(B, 1) {
+        Ok(events) => expected.is_none() && is_cancelled(&events),
+        Err(cause) => Some(cause) == *expected,
+    }
+}
+
 fn refusals(station: &Station, len: usize) -> [Option<Refused>; 9] {
     [
         station.open_refusal(),
@@ -22,93 +94,36 @@ fn refusals(station: &Station, len: usize) -> [Option<Refused>; 9] {
     ]
 }
 
-// A message isn't sent.
-fn is_unsent(
-    rt: &impl Abort,
-    alloc: Global,
-    station: &mut Station,
-    to: Address,
-    message: &[u8],
-    cause: Refused,
-) {
-    match send(rt, alloc, station, to, message) {
-        Ok(_) => panic!(rt; "a message is sent"),
-        Err(refused) => same(rt, refused.cause, Stopped::Refused(cause)),
+// Whether a step does, or shows, what it says.
+fn is_so(rt: &impl Abort, alloc: Global, station: &mut Station, step: &Step) -> bool {
+    match step {
+        Step::Open => {
+            open(rt, station);
+            true
+        }
+        Step::Send(to, len, refused) => sends(rt, alloc, station, *to, *len, refused),
+        Step::Pump(to, now, told, queued) => {
+            pumps(alloc, station, *to, *now, told) && station.queue_len() == *queued
+        }
+        Step::Cancel(refused, queued) => {
+            cancels(station, refused) && station.queue_len() == *queued
+        }
+        Step::Pending => station.is_pending(B, 1),
+        Step::Refuse(len, causes) => refusals(station, *len) == *causes,
     }
 }
 
-// The next frames to all are queued, or not yet: there are so many outcomes, and so many frames are then queued.
-fn pumps_to_all(
-    rt: &(impl Abort + AllocGlobal),
-    station: &mut Station,
-    now: u64,
-    told: Option<usize>,
-    len: usize,
-) {
-    let mut events = Events::none(rt.alloc());
-    match station.pump(Address::GLOBAL, now, &mut events) {
-        Ok(()) => same(rt, Some(events.len()), told),
-        Err(cause) => same(rt, (cause, None), (Refused::NotYet, told)),
-    }
-    same(rt, station.queue_len(), len);
-}
-
-// Message 1 ends as cancelled.
-fn cancels(rt: &impl Abort, station: &mut Station) {
-    match station.cancel(B, 1) {
-        Ok(events) => is_cancelled(rt, &events),
-        Err(refused) => panic!(rt; "error: {refused:?}"),
+// Ends the test at the first step that isn't so, and prints its place in the table.
+fn play(rt: &impl Abort, alloc: Global, station: &mut Station, steps: &[Step]) {
+    for (place, step) in steps.iter().enumerate() {
+        same(rt, (place, is_so(rt, alloc, station, step)), (place, true));
     }
 }
 
-fn is_cancelled(rt: &impl Abort, events: &Events) {
-    same(rt, events.len(), 1);
-    match events.get(0) {
-        Some(
-            Event::Outcome {
-                number,
-                outcome,
-                ..
-            },
-        ) => same(rt, (*number, *outcome), (1, Outcome::Cancelled)),
-        _ => panic!(rt; "no outcome is told"),
-    }
-}
-
-// What a station without a port and a message refuses.
-fn is_bare(rt: &(impl Abort + AllocGlobal), station: &mut Station) {
-    let expected = [
-        None,
-        Some(Refused::NoSuchPort),
-        Some(Refused::NoSuchPort),
-        Some(Refused::NoSuchPort),
-        None,
-        Some(Refused::NothingDue),
-        Some(Refused::TooShort),
-        Some(Refused::NothingToSend),
-        Some(Refused::NothingToSend),
-    ];
-    same(rt, refusals(station, 8).as_slice(), expected.as_slice());
-    let pumped = station.pump(B, 0, &mut Events::none(rt.alloc()));
-    same(rt, pumped.err(), Some(Refused::NothingToSend));
-}
-
-// With a port and a message it refuses less.
-fn has_port_and_message(rt: &impl Abort, station: &Station) {
-    let mut expected = [None; 9];
-    expected[3] = Some(Refused::PortNotPaused);
-    expected[5] = Some(Refused::NothingDue);
-    same(rt, refusals(station, 9).as_slice(), expected.as_slice());
-}
-
-fn is_pending(rt: &impl Abort, station: &Station) {
-    same(rt, station.is_pending(B, 1), true);
-}
-
-// A message that was cancelled is no more; the frame that began it and its abort are queued.
-fn has_cancelled(rt: &impl Abort, station: &mut Station) {
-    same(rt, station.cancel(B, 1).err(), Some(Refused::NothingToSend));
-    same(rt, station.queue_len(), 2);
+// A new station 21 does all this.
+fn does(rt: &impl Abort, alloc: Global, steps: &[Step]) {
+    let mut station = new_station(rt, alloc, A);
+    play(rt, alloc, &mut station, steps);
 }
 
 #[test]
@@ -119,48 +134,94 @@ fn only_nodes_have_stations(rt: HostRuntime) {
     }
 }
 
-// The announcement of a message to all and its packets are queued; the last one ends it.
-fn pump_to_all(rt: &(impl Abort + AllocGlobal), station: &mut Station) {
-    pumps_to_all(rt, station, 0, Some(0), 1);
-    pumps_to_all(rt, station, 49, None, 1);
-    pumps_to_all(rt, station, 50, Some(0), 2);
-    pumps_to_all(rt, station, 100, Some(1), 3);
-}
+// The announcement and the packets are queued; the last one ends the message.
+const TO_ALL: [Step; 5] = [
+    Step::Send(Address::GLOBAL, 9, None),
+    Step::Pump(Address::GLOBAL, 0, Ok(0), 1),
+    Step::Pump(Address::GLOBAL, 49, Err(Refused::NotYet), 1),
+    Step::Pump(Address::GLOBAL, 50, Ok(0), 2),
+    Step::Pump(Address::GLOBAL, 100, Ok(1), 3),
+];
 
 #[test]
 fn a_message_to_all_is_pumped(rt: HostRuntime) {
-    let mut station = new_station(&rt, rt.alloc(), A);
-    sends(&rt, rt.alloc(), &mut station, Address::GLOBAL);
-    pump_to_all(&rt, &mut station);
+    does(&rt, rt.alloc(), &TO_ALL);
 }
+
+// A station without a port and a message.
+const BARE: [Step; 4] = [
+    Step::Refuse(
+        8,
+        [
+            None,
+            Some(Refused::NoSuchPort),
+            Some(Refused::NoSuchPort),
+            Some(Refused::NoSuchPort),
+            None,
+            Some(Refused::NothingDue),
+            Some(Refused::TooShort),
+            Some(Refused::NothingToSend),
+            Some(Refused::NothingToSend),
+        ],
+    ),
+    Step::Pump(B, 0, Err(Refused::NothingToSend), 0),
+    Step::Send(A, 9, Some(Refused::SameStation)),
+    Step::Send(B, 8, Some(Refused::TooShort)),
+];
 
 #[test]
 fn messages_are_refused(rt: HostRuntime) {
-    let mut station = new_station(&rt, rt.alloc(), A);
-    is_bare(&rt, &mut station);
-    is_unsent(&rt, rt.alloc(), &mut station, A, &M9, Refused::SameStation);
-    is_unsent(
-        &rt,
-        rt.alloc(),
-        &mut station,
-        B,
-        &M9[1..],
-        Refused::TooShort,
-    );
+    does(&rt, rt.alloc(), &BARE);
 }
 
-fn begin_and_cancel(rt: &(impl Abort + AllocGlobal), station: &mut Station) {
-    has_port_and_message(rt, station);
-    pumps(rt, station);
-    is_pending(rt, station);
-    cancels(rt, station);
-    has_cancelled(rt, station);
-}
+// With a port and a message it refuses less. The frame that began the message and its abort are queued.
+const CANCELLED: [Step; 7] = [
+    Step::Open,
+    Step::Send(B, 9, None),
+    Step::Refuse(
+        9,
+        [
+            None,
+            None,
+            None,
+            Some(Refused::PortNotPaused),
+            None,
+            Some(Refused::NothingDue),
+            None,
+            None,
+            None,
+        ],
+    ),
+    Step::Pump(B, 0, Ok(0), 1),
+    Step::Pending,
+    Step::Cancel(None, 2),
+    Step::Cancel(Some(Refused::NothingToSend), 2),
+];
 
 #[test]
 fn a_message_is_cancelled(rt: HostRuntime) {
+    does(&rt, rt.alloc(), &CANCELLED);
+}
+
+const OPENED: [Step; 1] = [Step::Open];
+
+const SENT: [Step; 1] = [Step::Send(B, 9, None)];
+
+const PUMPED: [Step; 1] = [Step::Pump(B, 0, Ok(0), 1)];
+
+// The station equals its image until these steps.
+fn until(rt: &impl Abort, alloc: Global, station: &mut Station, steps: &[Step]) {
+    let image = got(rt, station.image());
+    let before = image.is_of(station);
+    play(rt, alloc, station, steps);
+    same(rt, (before, image.is_of(station)), (true, false));
+}
+
+// An image is that of its station until a port is opened, a message sent or a frame queued.
+#[test]
+fn an_image_is_that_of_its_station(rt: HostRuntime) {
     let mut station = new_station(&rt, rt.alloc(), A);
-    open(&rt, &mut station);
-    sends(&rt, rt.alloc(), &mut station, B);
-    begin_and_cancel(&rt, &mut station);
+    until(&rt, rt.alloc(), &mut station, &OPENED);
+    until(&rt, rt.alloc(), &mut station, &SENT);
+    until(&rt, rt.alloc(), &mut station, &PUMPED);
 }
