@@ -8,7 +8,7 @@ use super::played::{Step, does};
 //
 // The next message waits until 21 has settled by a Request, which may be repeated twice: 1 for a pump, and three times 1 for a timer and
 // 3 + 3 for the Request. Then seven frames are put, each of which both take, by three pumps.
-const AFTER_A_MISS: [Step; 17] = [
+const AFTER_A_MISS: [Step; 18] = [
     Step::Left(0),
     Step::Open(4000),
     Step::Send(B, 9, 1),
@@ -25,6 +25,7 @@ const AFTER_A_MISS: [Step; 17] = [
     Step::Send(B, 9, 2),
     Step::Left(22 + 85),
     Step::Rest(24),
+    Step::Left(0),
     Step::Ended((1, 1, 1)),
 ];
 

@@ -68,12 +68,13 @@ fn miss_frame(rt: &impl Abort, alloc: Global, segment: &mut Segment, missed: u32
 
 // The message ends without an acknowledgement, and the next one is acknowledged: the abort, the Request and its answer, and five frames of
 // that message are put.
-const TIMED_OUT: [Step; 8] = [
+const TIMED_OUT: [Step; 9] = [
     Step::Ended((0, 0, 0)),
     Step::Queued(A, 0),
     Step::Queued(B, 0),
     Step::Do(PlainCall::Tick(1250)),
     Step::Do(PlainCall::Fire(A)),
+    Step::Ended((0, 1, 0)),
     Step::Send(B, 9, 2),
     Step::Put(B, 8),
     Step::Ended((1, 1, 1)),

@@ -12,7 +12,7 @@ const FIRST_TO_ALL: Shown = (0x1CEB_FF21, [1, 1, 2, 3, 4, 5, 6, 7]);
 const LAST_TO_ALL: Shown = (0x1CEB_FF21, [2, 8, 9, 0xFF, 0xFF, 0xFF, 0xFF, 0xFF]);
 
 // Port 35.1 is open, and 21 sends message 1 of nine bytes.
-const BROADCAST: [(Address, Step); 15] = [
+const BROADCAST: [(Address, Step); 16] = [
     (B, Step::Open(9, 1)),
     (A, Step::Do(NodeCall::Send(Address::GLOBAL, &NINE), 1)),
     (A, Step::Next(Some(0))),
@@ -27,6 +27,7 @@ const BROADCAST: [(Address, Step); 15] = [
     (A, Step::Next(None)),
     (A, Step::End(Address::GLOBAL, 1, Outcome::Broadcast)),
     (B, Step::Nine),
+    (A, Step::Quiet),
     (B, Step::Quiet),
 ];
 
