@@ -1,6 +1,5 @@
 //! A segment with a port of 35 and a client of 21, step by step. The steps of a test are a table, which one function plays: a table needs no
-//! proof, and each call in a test does. A step that finds no memory is made again, and has changed nothing: so a test passes whichever one
-//! allocation is refused.
+//! proof, and each call in a test does. A step that found no memory has changed nothing, and is made again.
 use super::steps::*;
 use bus_frame::{CanId, Frame};
 use pgn_ids::Address;
@@ -124,6 +123,7 @@ pub(super) enum Work {
 /// So many rounds of these steps.
 pub(super) type Rounds = (u64, &'static [Step]);
 
+// Whether a step does, or shows, what it says; none of both if it found no memory.
 fn tries(
     rt: &impl Abort,
     alloc: Global,
@@ -302,7 +302,7 @@ fn sends_from(
     is_submitted && is_sent
 }
 
-// A turn finds no memory and leaves what it was to do to the next.
+// A turn that finds no memory leaves what it was to do to the next one.
 fn turns(live: &mut Live, step: &Step) -> bool {
     match step {
         Step::Turn(station) => {
@@ -372,7 +372,7 @@ fn read(live: &Live, inbox: &Inbox, sender: &Client) -> ([u64; 9], Counts) {
     (numbers, live.counts())
 }
 
-// Whether a step does, or shows, what it says. One that finds no memory changes nothing, and is made again.
+// Whether a step does, or shows, what it says. One that found no memory has changed nothing, and is made again.
 fn is_so(
     rt: &impl Abort,
     alloc: Global,
@@ -445,7 +445,9 @@ pub(super) fn does_on(rt: &impl Abort, alloc: Global, live: &mut Live, tables: &
 
 /// A new segment with the port and the client does all this.
 pub(super) fn does(rt: &impl Abort, alloc: Global, tables: &[Rounds]) {
-    does_apart(rt, alloc, &[tables]);
+    let mut pieces = Vec::new(alloc);
+    does_with(rt, alloc, &mut pieces, tables);
+    drop(pieces);
 }
 
 /// Several segments do this, one after another, with the pieces that were cut off those before.
