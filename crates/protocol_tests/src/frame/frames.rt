@@ -1,6 +1,5 @@
 use crate::checks::{got, holds, same};
 use bus_frame::*;
-use std::process::Abort;
 
 #[test]
 fn identifiers_and_their_parts(rt: HostRuntime) {

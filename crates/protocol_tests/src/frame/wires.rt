@@ -314,13 +314,21 @@ const FIELDS: [(Means, Option<Kind>, Option<u32>); 3] = [
     (Means::Request(FECA), None, Some(FECA)),
 ];
 
+// Whether a frame of a connection says both itself.
+fn says_itself(wire: &Wire<'_>, kind: Option<Kind>, pgn: Option<u32>) -> bool {
+    match wire {
+        Wire::Cm(frame) => Some(frame.kind()) == kind && Some(frame.pgn().raw()) == pgn,
+        _ => true,
+    }
+}
+
 fn has_fields(rt: &impl Abort, (meaning, kind, pgn): &(Means, Option<Kind>, Option<u32>)) -> bool {
     let wire = wire(rt, meaning);
     let raw = match wire.pgn() {
         Some(pgn) => Some(pgn.raw()),
         None => None,
     };
-    wire.kind() == *kind && raw == *pgn
+    wire.kind() == *kind && raw == *pgn && says_itself(&wire, *kind, *pgn)
 }
 
 #[test]

@@ -13,7 +13,7 @@ use session_table::*;
 use std::alloc::Global;
 use std::process::Abort;
 use tp_wire::constants::ETP_MAX_WINDOW;
-use tp_wire::{AbortReason, Kind, Wire};
+use tp_wire::{AbortReason, Wire};
 use tx_queue::TxQueue;
 
 const FROM: Address = Address(0x80);

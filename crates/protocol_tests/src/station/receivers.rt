@@ -12,7 +12,7 @@ use session_table::{Incoming, Key, MAX_SESSIONS, SessionKind};
 use station_sessions::*;
 use std::alloc::Global;
 use std::process::Abort;
-use tp_wire::{Kind, Wire};
+use tp_wire::Wire;
 use tx_queue::TxQueue;
 
 const KEY: Key = Key {
