@@ -96,7 +96,7 @@ fn follow(left: &[Delivery], pushed: u64) -> bool {
 }
 
 // What is asked of a relay, which lets its messages go.
-fn carried(relayed: Relayed) -> Carried {
+fn seen_of(relayed: Relayed) -> Carried {
     let carried = Carried {
         counts: [relayed.pulled, relayed.pushed, relayed.left.len() as u64],
         follow: follow(relayed.left.as_slice(), relayed.pushed),
@@ -115,7 +115,7 @@ pub(super) fn cross<R: Threads + Wait + Abort + Sync>(
     client: &mut Client,
     job: &Job,
 ) -> Carried {
-    carried(got(rt, relayed(rt, alloc, inbox, client, job)))
+    seen_of(got(rt, relayed(rt, alloc, inbox, client, job)))
 }
 
 // The same with these ends.
@@ -139,7 +139,7 @@ pub(super) fn run<R: Threads + Wait + Abort + Sync, G: Gate + Sync>(
     stop: Option<&Stop>,
 ) -> Carried {
     let Ends { inbox, client, .. } = ends;
-    carried(got(rt, run_whole(rt, alloc, inbox, client, job, gate, stop)))
+    seen_of(got(rt, run_whole(rt, alloc, inbox, client, job, gate, stop)))
 }
 
 /// So many messages are pulled, pushed and left. Others are want of memory.
