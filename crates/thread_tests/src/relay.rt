@@ -2,6 +2,5 @@
 mod endings;
 mod ends;
 mod pace;
-mod played;
 mod relays;
 mod segments;

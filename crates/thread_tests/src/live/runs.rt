@@ -1,16 +1,39 @@
 //! Scripts run by threads.
-use crate::checks::{got, holds, same};
+use crate::checks::{got, same};
 use crate::live::ended::*;
 use bus_live::{Cause, Gate, LiveRan, run_live};
 use std::alloc::Global;
-use std::io;
 use std::io::{BufRead, BufReader, Error, ErrorKind, Read, Write};
 use std::process::Abort;
 use std::sync::Wait;
+use std::sync::atomic::{AtomicU64, Ordering};
 use std::thread::Threads;
+use std::{io, thread};
 
-/// How often each of four workers looks for the others.
 const LOOKS: u64 = 100_000_000;
+
+// Holds each of four workers at its first turn until all are noted, or the looks are used up.
+#[derive(Drop)]
+struct Crossing {
+    come: AtomicU64,
+    missed: AtomicU64,
+}
+
+impl Gate for Crossing {
+    fn pass(&self, _worker: u8, turn: u64) {
+        if turn > 1 {
+            return;
+        }
+        self.come.fetch_add(1, Ordering::SeqCst);
+        for _ in 0..LOOKS {
+            if self.come.load(Ordering::SeqCst) >= 4 {
+                return;
+            }
+            thread::yield_now();
+        }
+        self.missed.fetch_add(1, Ordering::SeqCst);
+    }
+}
 
 const SCRIPT: &str =
     "stations 21 22 35\nopen 35 FECA 1785\nsend 21 35 FECA 010203040506070809\nsend 22 35 FECA 1112131415161718191A\n";
@@ -59,23 +82,51 @@ fn run_past<T: Threads + Wait + Sync, G: Gate + Sync>(
     run_once(rt, alloc, script, writer, gate, turns)
 }
 
-const TWO: Row = (SCRIPT, MANY_TURNS, 0, TEXT, "");
-
 #[test]
 fn two_messages_by_threads(rt: HostRuntime) {
     let alloc = rt.alloc();
-    let gate = Crossing::new(0, 4, LOOKS);
+    let gate = Crossing {
+        come: AtomicU64::new(0),
+        missed: AtomicU64::new(0),
+    };
     let mut text = Vec::new(alloc);
     let ran = run_past(&rt, alloc, SCRIPT, &mut text, &gate, MANY_TURNS);
-    holds(&rt, is_end(&rt, alloc, ran, text.as_slice(), &TWO));
-    same(&rt, gate.missed(), 0);
+    wrote(&rt, ran, 0, text.as_slice(), TEXT);
+    same(&rt, gate.missed.load(Ordering::SeqCst), 0);
 }
 
-// Runs a script, which ends as the row says.
-fn ends<T: Threads + Wait + Abort + Sync>(rt: &T, alloc: Global, script: &str, row: &Row) -> bool {
+// Runs a script, which ends with this status and writes this text.
+fn writes<T: Threads + Wait + Abort + Sync>(
+    rt: &T,
+    alloc: Global,
+    script: &str,
+    turns: u64,
+    status: u8,
+    meant: &str,
+) {
     let mut text = Vec::new(alloc);
-    let ran = run_past(rt, alloc, script, &mut text, &OpenGate {}, row.1);
-    is_end(rt, alloc, ran, text.as_slice(), row)
+    let ran = run_past(rt, alloc, script, &mut text, &OpenGate {}, turns);
+    wrote(rt, ran, status, text.as_slice(), meant);
+}
+
+// Runs a script that ends at a fault: it writes this text before it, and its line is this.
+fn fails<T: Threads + Wait + Abort + Sync>(
+    rt: &T,
+    alloc: Global,
+    script: &str,
+    meant: &str,
+    line: &str,
+) {
+    let mut text = Vec::new(alloc);
+    let ran = run_past(rt, alloc, script, &mut text, &OpenGate {}, 1);
+    wrote(rt, ran, 1, text.as_slice(), meant);
+    is_told(rt, alloc, ran, line);
+}
+
+#[test]
+fn one_turn_is_too_few(rt: HostRuntime) {
+    let meant = "port 35.1\nturns ran out\n";
+    writes(&rt, rt.alloc(), SCRIPT, 1, 3, meant);
 }
 
 const MANY: &str =
@@ -84,46 +135,41 @@ const MANY: &str =
 const MANY_TEXT: &str =
     "port 22.1\n  given 22.1 21 FF 0FECA 9 010203040506070809\nport 35.1\n  given 35.1 21 35 0FECA 10 1112131415161718191A\n  given 35.1 21 35 0FECA 9 212223242526272829\n  given 35.1 21 FF 0FECA 9 010203040506070809\n  given 35.1 22 35 0FECA 9 313233343536373839\nport 35.2\noutcome 21 35 1 Acknowledged\noutcome 21 35 2 Acknowledged\noutcome 21 FF 1 Broadcast\noutcome 22 35 1 Acknowledged\n";
 
+#[test]
+fn lines_rise_by_address(rt: HostRuntime) {
+    writes(&rt, rt.alloc(), MANY, MANY_TURNS, 0, MANY_TEXT);
+}
+
 const ABSENT: &str =
     "stations 21\nsend 21 80 FECA 010203040506070809\nsend 21 80 FECA 010203040506070809\nsend 21 21 FECA 010203040506070809\n";
 
 const ABSENT_TEXT: &str =
     "refused 17 SameStation\noutcome 21 80 1 TimedOut\noutcome 21 80 2 Unreachable\n";
 
-const SCRIPTS: [Row; 8] = [
-    // One turn is too few.
-    (SCRIPT, 1, 3, "port 35.1\nturns ran out\n", ""),
-    // Lines rise by address.
-    (MANY, MANY_TURNS, 0, MANY_TEXT, ""),
-    // Messages to an absent node have outcomes.
-    (ABSENT, MANY_TURNS, 0, ABSENT_TEXT, ""),
-    // Other commands are unknown.
-    (
-        "stations 21 35\nopen 50 FECA 9\ntick 1\n",
-        1,
-        1,
-        "refused 14 NoSuchStation\n",
-        "line 3: unknown command",
-    ),
-    // An empty line says nothing.
-    ("\n", 1, 0, "", ""),
-    // Scripts are bounded.
-    ("stations 1 2 3 4 5 6 7 8 9\n", 1, 1, "", "line 1: bad word"),
-    (
-        "stations 1\nstations 2\n",
-        1,
-        1,
-        "",
-        "line 2: stations twice",
-    ),
-    ("send 21 35 FECA 01\n", 1, 1, "", "line 1: no stations"),
+#[test]
+fn messages_to_an_absent_node_have_outcomes(rt: HostRuntime) {
+    writes(&rt, rt.alloc(), ABSENT, MANY_TURNS, 0, ABSENT_TEXT);
+}
+
+#[test]
+fn other_commands_are_unknown(rt: HostRuntime) {
+    let script = "stations 21 35\nopen 50 FECA 9\ntick 1\n";
+    let meant = "refused 14 NoSuchStation\n";
+    fails(&rt, rt.alloc(), script, meant, "line 3: unknown command");
+}
+
+// Scripts that end at a fault, and its line.
+const UNBOUNDED: [(&str, &str); 3] = [
+    ("stations 1 2 3 4 5 6 7 8 9\n", "line 1: bad word"),
+    ("stations 1\nstations 2\n", "line 2: stations twice"),
+    ("send 21 35 FECA 01\n", "line 1: no stations"),
 ];
 
 #[test]
-fn a_script_has_its_text_and_end(rt: HostRuntime) {
-    for (place, row) in SCRIPTS.iter().enumerate() {
-        let so = ends(&rt, rt.alloc(), row.0, row);
-        same(&rt, (place, so), (place, true));
+fn scripts_are_bounded(rt: HostRuntime) {
+    writes(&rt, rt.alloc(), "\n", 1, 0, "");
+    for (script, line) in &UNBOUNDED {
+        fails(&rt, rt.alloc(), script, "", line);
     }
 }
 
@@ -136,13 +182,10 @@ fn script_of(rt: &impl Abort, alloc: Global, messages: u64) -> String {
     script
 }
 
-// The script has one message too many.
-const TOO_MANY: Row = ("", 1, 1, "", "line 66: bad word");
-
 #[test]
 fn messages_are_at_most_64(rt: HostRuntime) {
     let script = script_of(&rt, rt.alloc(), 65);
-    holds(&rt, ends(&rt, rt.alloc(), script.as_str(), &TOO_MANY));
+    fails(&rt, rt.alloc(), script.as_str(), "", "line 66: bad word");
 }
 
 // Takes nothing.
@@ -168,12 +211,11 @@ fn run_full<T: Threads + Wait + Sync>(rt: &T, alloc: Global) -> LiveRan {
     run_once(rt, alloc, SCRIPT, &mut Full {}, &OpenGate {}, 1)
 }
 
-const WRITE_FAILED: Row = (SCRIPT, 1, 1, "", "write failed");
-
 #[test]
 fn failed_write_is_told(rt: HostRuntime) {
     let ran = run_full(&rt, rt.alloc());
-    holds(&rt, is_end(&rt, rt.alloc(), ran, &[], &WRITE_FAILED));
+    same(&rt, ran.status(), 1);
+    is_told(&rt, rt.alloc(), ran, "write failed");
 }
 
 // Gives nothing.
@@ -186,13 +228,12 @@ impl Read for Broken {
     }
 }
 
-const READ_FAILED: Row = ("", 1, 1, "", "line 1: read failed");
-
 #[test]
 fn failed_read_is_told(rt: HostRuntime) {
     let alloc = rt.alloc();
     let mut text = Vec::new(alloc);
     let mut reader = got(&rt, BufReader::new(alloc, Broken {}));
     let ran = run_from(&rt, alloc, &mut reader, &mut text, &OpenGate {}, 1);
-    holds(&rt, is_end(&rt, alloc, ran, text.as_slice(), &READ_FAILED));
+    wrote(&rt, ran, 1, text.as_slice(), "");
+    is_told(&rt, alloc, ran, "line 1: read failed");
 }

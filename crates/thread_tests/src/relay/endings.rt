@@ -1,16 +1,28 @@
 //! The ends of a relay whose turns don't run out: at its limit, with one of its sides, and when it is stopped. Each of these relays also
 //! ends, in the same way, if no second thread can be made.
-use super::ends::*;
-use super::played::{Carried, End, NO_END, Open, Step, does, has_memory, is_ended, run};
-use crate::checks::holds;
-use port_relay::{Ended, Gate, Stop};
+use crate::checks::{got, holds, same};
+use crate::relay::ends::*;
+use message_events::Bytes;
+use port_relay::{Ended, Gate, Relayed, Stop};
+use segment_rings::Delivery;
 use segment_shared::Refusal;
-use std::alloc::Global;
+use std::alloc::{AllocError, Global};
 use std::process::Abort;
 use std::sync::Wait;
 use std::sync::atomic::{AtomicU64, Ordering};
 use std::thread;
 use std::thread::Threads;
+
+/// More turns than a relay makes in any time.
+const NO_END: u64 = u64::MAX;
+
+/// Lets each side pass at once.
+#[derive(Drop)]
+struct Open {}
+
+impl Gate for Open {
+    fn pass(&self, _side: u8, _turn: u64) {}
+}
 
 fn job(limit: u64, turns: u64) -> Job {
     Job {
@@ -20,65 +32,92 @@ fn job(limit: u64, turns: u64) -> Job {
     }
 }
 
-const TO_THE_LIMIT: [Step; 2] = [
-    Step::Give(40, 9),
-    Step::EndAlone(End {
-        limit: 40,
-        counts: [40, 40, 0],
-        pulling: Ended::Limit,
-        pushing: Ended::OtherEnded,
-    }),
-];
-
-#[test]
-fn a_relay_ends_at_its_limit(rt: HostRuntime) {
-    does(&rt, rt.alloc(), &TO_THE_LIMIT);
+// Gives so many messages of so many bytes, the first of which are 1, 2, 3 and so on.
+fn give_all(rt: &impl Abort, alloc: Global, ends: &mut Ends, messages: u8, many: u8) {
+    for k in 0..messages {
+        give(rt, alloc, &mut ends.door, k.wrapping_add(1), many);
+    }
 }
 
-// The only message is too short to be submitted, and no other arrives: the receiving ends too.
-const A_SHORT_ONE: [Step; 2] = [
-    Step::Give(1, 8),
-    Step::EndAlone(End {
-        limit: 5,
-        counts: [1, 0, 1],
-        pulling: Ended::OtherEnded,
-        pushing: Ended::Refused(Refusal::TooShort),
-    }),
-];
-
-#[test]
-fn the_receiving_ends_with_the_submitting(rt: HostRuntime) {
-    does(&rt, rt.alloc(), &A_SHORT_ONE);
-}
-
-fn is_by_turns(ended: Ended) -> bool {
-    ended == Ended::Turns || ended == Ended::OtherEnded
-}
-
-/// Which side is through its turns first is the threads' affair.
-pub(super) fn carries_nothing<R: Threads + Wait + Abort + Sync>(
+fn carry<R: Threads + Wait + Abort + Sync, G: Gate + Sync>(
     rt: &R,
     alloc: Global,
     ends: &mut Ends,
-) -> bool {
-    let carried = run(rt, alloc, ends, &job(5, 7), &Open {}, None);
+    job: &Job,
+    gate: &G,
+    stop: Option<&Stop>,
+) -> Relayed {
+    let Ends { inbox, client, .. } = ends;
+    got(rt, run_whole(rt, alloc, inbox, client, job, gate, stop))
+}
+
+// So many were pulled, pushed and left, and for these reasons the sides ended, or for want of memory if one of them lacked it.
+fn is_ended(rt: &impl Abort, carried: &Relayed, meant: [u64; 3], pulling: Ended, pushing: Ended) {
+    has_memory(rt, carried);
+    got(rt, counts(carried, meant));
+    same(rt, carried.pulling, pulling);
+    same(rt, carried.pushing, pushing);
+}
+
+fn has_memory(rt: &impl Abort, carried: &Relayed) {
+    if carried.pulling == Ended::OutOfMemory || carried.pushing == Ended::OutOfMemory {
+        got(rt, Err(AllocError))
+    }
+}
+
+fn carry_to_the_limit<R: Threads + Wait + Abort + Sync>(rt: &R, alloc: Global, ends: &mut Ends) {
+    give_all(rt, alloc, ends, 40, 9);
+    let carried = carry(rt, alloc, ends, &job(40, NO_END), &Open {}, None);
+    is_ended(rt, &carried, [40, 40, 0], Ended::Limit, Ended::OtherEnded);
+    drop(carried);
+}
+
+#[test]
+fn a_relay_ends_at_its_limit(rt: HostRuntime) {
+    let mut ends = Ends::new(&rt, rt.alloc());
+    carry_to_the_limit(&rt, rt.alloc(), &mut ends);
+    drop(ends);
+}
+
+// The only message is too short to be submitted, and no other arrives: the receiving ends too.
+fn carry_a_short_one<R: Threads + Wait + Abort + Sync>(rt: &R, alloc: Global, ends: &mut Ends) {
+    give_all(rt, alloc, ends, 1, 8);
+    let carried = carry(rt, alloc, ends, &job(5, NO_END), &Open {}, None);
+    let refused = Ended::Refused(Refusal::TooShort);
+    is_ended(rt, &carried, [1, 0, 1], Ended::OtherEnded, refused);
+    drop(carried);
+}
+
+#[test]
+fn the_receiving_ends_with_the_submitting(rt: HostRuntime) {
+    let mut ends = Ends::new(&rt, rt.alloc());
+    carry_a_short_one(&rt, rt.alloc(), &mut ends);
+    drop(ends);
+}
+
+fn is_by_turns(rt: &impl Abort, ended: Ended) {
+    holds(rt, ended == Ended::Turns || ended == Ended::OtherEnded);
+}
+
+// Which side is through its turns first is the threads' affair.
+fn carry_nothing<R: Threads + Wait + Abort + Sync>(rt: &R, alloc: Global, ends: &mut Ends) {
+    let carried = carry(rt, alloc, ends, &job(5, 7), &Open {}, None);
     has_memory(rt, &carried);
-    let [pulled, pushed, _] = carried.counts;
-    let is_nothing = pulled == 0 && pushed == 0;
-    let by_turns = is_by_turns(carried.pulling) && is_by_turns(carried.pushing);
-    is_nothing && by_turns && is_one_of_both(&carried, Ended::Turns)
+    same(rt, (carried.pulled, carried.pushed), (0, 0));
+    is_by_turns(rt, carried.pulling);
+    is_by_turns(rt, carried.pushing);
+    holds(
+        rt,
+        carried.pulling != carried.pushing || carried.pulling == Ended::Turns,
+    );
+    drop(carried);
 }
-
-// Whether at least one side ended for this reason.
-fn is_one_of_both(carried: &Carried, reason: Ended) -> bool {
-    carried.pulling != carried.pushing || carried.pulling == reason
-}
-
-const NOTHING: [Step; 1] = [Step::CarryNothing];
 
 #[test]
 fn a_relay_ends_after_its_turns(rt: HostRuntime) {
-    does(&rt, rt.alloc(), &NOTHING);
+    let mut ends = Ends::new(&rt, rt.alloc());
+    carry_nothing(&rt, rt.alloc(), &mut ends);
+    drop(ends);
 }
 
 /// The turn of a side by which something else must have ended the other one.
@@ -118,72 +157,59 @@ impl Gate for OnceFull<'_> {
     }
 }
 
-pub(super) fn is_stopped_when_full<R: Threads + Wait + Abort + Sync>(
-    rt: &R,
-    alloc: Global,
-    ends: &mut Ends,
-    end: &End,
-) -> bool {
+fn starts_with(rt: &impl Abort, bytes: &Bytes, first: u8) {
+    holds(rt, bytes.len() > 0);
+    same(rt, bytes.as_slice()[0], first);
+}
+
+fn are_in_order(rt: &impl Abort, left: &[Delivery]) {
+    let mut first = 0u8;
+    for delivery in left {
+        first = first.wrapping_add(1);
+        starts_with(rt, &delivery.bytes, first);
+    }
+}
+
+// The client's ring is full: the first message waits with the side that submits, sixteen in the line, and one with the side that receives.
+fn stop_when_full<R: Threads + Wait + Abort + Sync>(rt: &R, alloc: Global, ends: &mut Ends) {
+    give_all(rt, alloc, ends, 40, 9);
+    for _ in 0..64 {
+        submit(rt, &mut ends.client, RECEIVER, bytes(rt, alloc, 0x80, 9));
+    }
     let stop = Stop::new();
     let gate = OnceFull {
         stop: &stop,
         steps: AtomicU64::new(0),
     };
-    let carried = run(rt, alloc, ends, &job(end.limit, NO_END), &gate, Some(&stop));
-    is_ended(rt, &carried, end)
+    let carried = carry(rt, alloc, ends, &job(40, NO_END), &gate, Some(&stop));
+    is_ended(rt, &carried, [18, 0, 18], Ended::Stopped, Ended::Stopped);
+    are_in_order(rt, carried.left.as_slice());
+    drop(carried);
 }
-
-// The client's ring is full: the first message waits with the side that submits, sixteen in the line, and one with the side that receives.
-const WHEN_FULL: [Step; 3] = [
-    Step::Give(40, 9),
-    Step::Fill(64),
-    Step::StopWhenFull(End {
-        limit: 40,
-        counts: [18, 0, 18],
-        pulling: Ended::Stopped,
-        pushing: Ended::Stopped,
-    }),
-];
 
 #[test]
 fn what_a_stopped_relay_holds_is_left(rt: HostRuntime) {
-    does(&rt, rt.alloc(), &WHEN_FULL);
+    let mut ends = Ends::new(&rt, rt.alloc());
+    stop_when_full(&rt, rt.alloc(), &mut ends);
+    drop(ends);
 }
 
-pub(super) fn is_stopped_before<R: Threads + Wait + Abort + Sync>(
-    rt: &R,
-    alloc: Global,
-    ends: &mut Ends,
-    end: &End,
-) -> bool {
+fn stop_before<R: Threads + Wait + Abort + Sync>(rt: &R, alloc: Global, ends: &mut Ends) {
+    give_all(rt, alloc, ends, 3, 9);
     let stop = Stop::new();
     holds(rt, !stop.is_stopped());
     stop.stop();
     holds(rt, stop.is_stopped());
-    let carried = run(
-        rt,
-        alloc,
-        ends,
-        &job(end.limit, NO_END),
-        &Open {},
-        Some(&stop),
-    );
-    is_ended(rt, &carried, end)
+    let carried = carry(rt, alloc, ends, &job(3, NO_END), &Open {}, Some(&stop));
+    is_ended(rt, &carried, [0, 0, 0], Ended::Stopped, Ended::Stopped);
+    drop(carried);
 }
-
-const BEFORE: [Step; 2] = [
-    Step::Give(3, 9),
-    Step::StopBefore(End {
-        limit: 3,
-        counts: [0, 0, 0],
-        pulling: Ended::Stopped,
-        pushing: Ended::Stopped,
-    }),
-];
 
 #[test]
 fn a_relay_that_is_stopped_before_moves_nothing(rt: HostRuntime) {
-    does(&rt, rt.alloc(), &BEFORE);
+    let mut ends = Ends::new(&rt, rt.alloc());
+    stop_before(&rt, rt.alloc(), &mut ends);
+    drop(ends);
 }
 
 /// How often the thread that stops looks whether the relay has begun.
@@ -221,8 +247,8 @@ fn carry_counted<R: Threads + Wait + Abort + Sync>(
     ends: &mut Ends,
     gate: &Counted,
     stop: &Stop,
-) -> Carried {
-    let carried = run(rt, alloc, ends, &job(3, NO_END), gate, Some(stop));
+) -> Relayed {
+    let carried = carry(rt, alloc, ends, &job(3, NO_END), gate, Some(stop));
     gate.turns.fetch_add(BEGUN, Ordering::SeqCst);
     carried
 }
@@ -231,11 +257,9 @@ fn is_stopped(ended: Ended) -> bool {
     ended == Ended::Stopped || ended == Ended::OtherEnded
 }
 
-pub(super) fn is_stopped_beside<R: Threads + Wait + Abort + Sync>(
-    rt: &R,
-    alloc: Global,
-    ends: &mut Ends,
-) -> bool {
+// Two messages of three arrive, so that nothing but the other thread ends the relay.
+fn stop_beside<R: Threads + Wait + Abort + Sync>(rt: &R, alloc: Global, ends: &mut Ends) {
+    give_all(rt, alloc, ends, 2, 9);
     let stop = Stop::new();
     let gate = Counted {
         turns: AtomicU64::new(0),
@@ -246,29 +270,35 @@ pub(super) fn is_stopped_beside<R: Threads + Wait + Abort + Sync>(
         || stop_later(&gate, &stop),
     );
     has_memory(rt, &carried);
-    let both = is_stopped(carried.pulling) && is_stopped(carried.pushing);
-    both && is_one_of_both(&carried, Ended::Stopped)
+    holds(
+        rt,
+        is_stopped(carried.pulling) && is_stopped(carried.pushing),
+    );
+    holds(
+        rt,
+        carried.pulling != carried.pushing || carried.pulling == Ended::Stopped,
+    );
+    drop(carried);
 }
-
-// Two messages of three arrive, so that nothing but the other thread ends the relay.
-const BESIDE: [Step; 2] = [Step::Give(2, 9), Step::StopBeside];
 
 #[test]
 fn another_thread_stops_a_relay(rt: HostRuntime) {
-    does(&rt, rt.alloc(), &BESIDE);
+    let mut ends = Ends::new(&rt, rt.alloc());
+    stop_beside(&rt, rt.alloc(), &mut ends);
+    drop(ends);
 }
 
-const CROSSED: [Step; 2] = [
-    Step::Give(40, 9),
-    Step::EndCrossed(End {
-        limit: 40,
-        counts: [40, 40, 0],
-        pulling: Ended::Limit,
-        pushing: Ended::OtherEnded,
-    }),
-];
+fn cross<R: Threads + Wait + Abort + Sync>(rt: &R, alloc: Global, ends: &mut Ends) {
+    give_all(rt, alloc, ends, 40, 9);
+    let Ends { inbox, client, .. } = ends;
+    let carried = got(rt, relayed(rt, alloc, inbox, client, &job(40, NO_END)));
+    is_ended(rt, &carried, [40, 40, 0], Ended::Limit, Ended::OtherEnded);
+    drop(carried);
+}
 
 #[test]
 fn relay_crossed(rt: HostRuntime) {
-    does(&rt, rt.alloc(), &CROSSED);
+    let mut ends = Ends::new(&rt, rt.alloc());
+    cross(&rt, rt.alloc(), &mut ends);
+    drop(ends);
 }

@@ -219,3 +219,12 @@ fn has_pgn(came: &[Delivery], k: usize, pgn: Pgn) -> bool {
         None => false,
     }
 }
+
+/// Pulled, pushed and left. Fewer than are meant to be are want of memory.
+pub(crate) fn counts(relayed: &Relayed, meant: [u64; 3]) -> Result<(), AllocError> {
+    let left = relayed.left.len() as u64;
+    if [relayed.pulled, relayed.pushed, left] != meant {
+        return Err(AllocError);
+    }
+    Ok(())
+}

@@ -1,7 +1,6 @@
 //! A relay between two segments.
-use super::ends::*;
-use super::played::{cross, has_counts};
-use crate::checks::{got, holds};
+use crate::checks::{got, holds, same};
+use crate::relay::ends::*;
 use pgn_ids::Address;
 use segment_shared::{Client, Delivery, Inbox, Live};
 use std::alloc::Global;
@@ -46,15 +45,20 @@ impl Segment {
     }
 }
 
-fn is_given(given: &Delivery) -> bool {
-    let is_of_gateway = given.from == GATEWAY && given.to == FAR && given.pgn.raw() == FECA;
-    is_of_gateway && given.bytes.as_slice() == [1, 2, 3, 4, 5, 6, 7, 8, 9].as_slice()
+fn is_given(rt: &impl Abort, given: &Delivery) {
+    same(rt, given.from, GATEWAY);
+    same(rt, given.to, FAR);
+    same(rt, given.pgn.raw(), FECA);
+    holds(
+        rt,
+        given.bytes.as_slice() == [1, 2, 3, 4, 5, 6, 7, 8, 9].as_slice(),
+    );
 }
 
 fn receives(rt: &impl Abort, inbox: &mut Inbox) {
     let came = got(rt, inbox.try_receive());
     let given = got(rt, came.ok_or("nothing came"));
-    holds(rt, is_given(&given));
+    is_given(rt, &given);
     drop(given);
 }
 
@@ -70,8 +74,9 @@ fn carry<R: Threads + Wait + Abort + Sync>(
         limit: 1,
         turns: TURNS,
     };
-    let carried = cross(rt, alloc, inbox, client, &job);
-    has_counts(rt, &carried, [1, 1, 0]);
+    let carried = got(rt, relayed(rt, alloc, inbox, client, &job));
+    got(rt, counts(&carried, [1, 1, 0]));
+    drop(carried);
 }
 
 fn send_and_carry<R: Threads + Wait + Abort + Sync>(
