@@ -4,12 +4,12 @@ use Rattle.std.proofs.lemmas.Option.{none-some, same_Some}
 use Rattle.pgn_ids.specs.declared.address.Address.{Address}
 use Rattle.port_table.specs.declared.port.PortId.{PortId}
 use Rattle.stored_calls.specs.declared.stored.Stored.{Stored}
-use Rattle.script_setup.specs.LiveView.{LiveView}
-use Rattle.script_setup.specs.Plan.{Plan}
-use Rattle.script_setup.specs.declared.setup.Message.{Message}
-use Rattle.segment_report.specs.declared.names.Names.{Names}
-use Rattle.segment_report.specs.Names.{IsNamed, AreNamed, stations_in}
-use Rattle.segment_report.specs.Ending.{Came}
+use Rattle.script_segments.specs.LiveView.{LiveView}
+use Rattle.script_segments.specs.Plan.{Plan}
+use Rattle.script_segments.specs.declared.setup.Message.{Message}
+use Rattle.script_segments.specs.declared.names.Names.{Names}
+use Rattle.script_segments.specs.Names.{IsNamed, AreNamed, stations_in}
+use Rattle.script_segments.specs.Ending.{Came}
 use Rattle.bus_live.specs.Ending.{CameFrom, CameTo}
 
 abbrev Made : Type 0

@@ -3,15 +3,15 @@ use Rattle.std.specs.Prelude.{◌≡◌, ℕ, List, [], Bool, false, Option, Som
 use Rattle.pgn_ids.specs.declared.address.Address.{Address}
 use Rattle.port_table.specs.declared.port.PortId.{PortId}
 use Rattle.stored_calls.specs.declared.stored.Stored.{Stored}
-use Rattle.script_setup.specs.LiveView.{LiveView}
+use Rattle.script_segments.specs.LiveView.{LiveView}
 use Rattle.script_runs.specs.Reading.{Planned, planned_by}
 use Rattle.script_runs.specs.Ending.{EndedBy}
 use Rattle.script_runs.specs.declared.ending.LiveRan.{LiveRan}
 use Rattle.script_runs.specs.declared.ending.Told.{Told}
-use Rattle.script_setup.specs.Plan.{Plan, first_plan, grammar, text_of}
-use Rattle.script_setup.specs.declared.setup.Message.{Message}
-use Rattle.segment_report.specs.Ending.{Came}
-use Rattle.segment_report.specs.declared.names.Names.{Names}
+use Rattle.script_segments.specs.Plan.{Plan, first_plan, grammar, text_of}
+use Rattle.script_segments.specs.declared.setup.Message.{Message}
+use Rattle.script_segments.specs.Ending.{Came}
+use Rattle.script_segments.specs.declared.names.Names.{Names}
 
 abbrev pub planned : List ℕ → Planned Plan
 planned script = planned_by grammar first_plan script

@@ -1,12 +1,11 @@
 //! A script run by threads.
 ghost use Rattle.std.specs.Prelude.{IfSome, IfOk};
-ghost use Rattle.script_setup.specs.Plan.{plan_of};
+ghost use Rattle.script_segments.specs.Plan.{plan_of};
 ghost use Rattle.bus_live.specs.Ending.{CameOf, CameTo, Ended, planned};
 
 use pgn_ids::Address;
 use script_runs::{LiveRan, Lost, Told, read_script, tell_refused, tell_run};
-use script_setup::Setup;
-use segment_report::{Names, names_of, text_of};
+use script_segments::{Names, Setup, names_of, text_of};
 use segment_threads::{
     Board, Ends, Gate, Inbox, Live, Pace, Party, Sender, SharedSegment, finish, gather, senders_of,
     spawn_segment, watch,

@@ -9,15 +9,15 @@ use Rattle.segment_rings.specs.declared.words.Submission.{Submission}
 use Rattle.segment_rings.specs.declared.words.Delivery.{Delivery}
 use Rattle.segment_rings.specs.Ends.{ClientEnd, InboxEnd}
 use Rattle.stored_calls.specs.declared.stored.Stored.{Stored}
-use Rattle.script_setup.specs.Reports.{ClientReport, InboxReport, AreClientReports, AreInboxReports}
-use Rattle.script_setup.specs.LiveView.{LiveView, Laws}
-use Rattle.script_setup.proofs.Reports.{left_uncut, rest_uncut}
+use Rattle.script_segments.specs.Reports.{ClientReport, InboxReport, AreClientReports, AreInboxReports}
+use Rattle.script_segments.specs.LiveView.{LiveView, Laws}
+use Rattle.script_segments.proofs.Reports.{left_uncut, rest_uncut}
 use Rattle.live_record.specs.Record.{accepted, given, notes_of, trail}
 use Rattle.live_record.proofs.Prefixes.{prefix_length}
 use Rattle.port_relay.specs.Relaying.{IsRelayed}
 use Rattle.port_relay.specs.Working.{relayed_to}
 use Rattle.port_relay.specs.declared.relaying.Relayed.{Relayed}
-use Rattle.relay_setup.specs.declared.gateway.Passage.{Passage}
+use Rattle.script_segments.specs.declared.relay.gateway.Passage.{Passage}
 use Rattle.bus_relay.specs.declared.carrying.Carried.{Carried}
 use Rattle.bus_relay.specs.declared.text.Carriage.{Carriage}
 use Rattle.bus_relay.specs.Carriages.{HasCarried, IsBy, place_of, none_left, port_given, IsCarried, IsCarriedWhole}

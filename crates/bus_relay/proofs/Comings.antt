@@ -4,14 +4,14 @@ use Rattle.std.proofs.lemmas.Option.{none-some, same_Some}
 use Rattle.pgn_ids.specs.declared.address.Address.{Address}
 use Rattle.port_table.specs.declared.port.PortId.{PortId}
 use Rattle.stored_calls.specs.declared.stored.Stored.{Stored}
-use Rattle.script_setup.specs.Plan.{Plan, plan_of}
-use Rattle.script_setup.specs.declared.setup.Message.{Message}
-use Rattle.script_setup.specs.declared.setup.Setup.{Setup}
-use Rattle.segment_report.specs.declared.names.Names.{Names}
-use Rattle.segment_report.specs.Names.{IsNamed, stations_in}
-use Rattle.relay_setup.specs.declared.gateway.Passage.{Passage}
-use Rattle.relay_setup.specs.declared.gateway.Routing.{Routing}
-use Rattle.relay_setup.specs.Gateway.{passage_in}
+use Rattle.script_segments.specs.Plan.{Plan, plan_of}
+use Rattle.script_segments.specs.declared.setup.Message.{Message}
+use Rattle.script_segments.specs.declared.setup.Setup.{Setup}
+use Rattle.script_segments.specs.declared.names.Names.{Names}
+use Rattle.script_segments.specs.Names.{IsNamed, stations_in}
+use Rattle.script_segments.specs.declared.relay.gateway.Passage.{Passage}
+use Rattle.script_segments.specs.declared.relay.gateway.Routing.{Routing}
+use Rattle.script_segments.specs.Gateway.{passage_in}
 use Rattle.bus_relay.specs.Ending.{CameOf, CameFrom, CameBy}
 
 -- by other names of the same lists

@@ -4,11 +4,11 @@ use mathlib.Core.List.{IsPrefix}
 use Rattle.pgn_ids.specs.declared.address.Address.{Address}
 use Rattle.segment_rings.specs.declared.words.Submission.{Submission}
 use Rattle.segment_rings.specs.declared.words.Delivery.{Delivery}
-use Rattle.script_setup.specs.Reports.{ClientReport}
-use Rattle.script_setup.specs.LiveView.{LiveView}
+use Rattle.script_segments.specs.Reports.{ClientReport}
+use Rattle.script_segments.specs.LiveView.{LiveView}
 use Rattle.live_record.specs.Record.{accepted, given, notes_of, trail}
 use Rattle.port_relay.specs.Working.{relayed_to}
-use Rattle.relay_setup.specs.declared.gateway.Passage.{Passage}
+use Rattle.script_segments.specs.declared.relay.gateway.Passage.{Passage}
 use Rattle.bus_relay.specs.declared.carrying.Carried.{Carried}
 use Rattle.bus_relay.specs.declared.text.Carriage.{Carriage}
 

@@ -5,20 +5,20 @@ use Rattle.port_table.specs.declared.port.PortId.{PortId}
 use Rattle.segment_law.specs.Headline.{Headline}
 use Rattle.live_record.specs.Record.{Trail, trail}
 use Rattle.stored_calls.specs.declared.stored.Stored.{Stored}
-use Rattle.script_setup.specs.LiveView.{LiveView, Laws}
+use Rattle.script_segments.specs.LiveView.{LiveView, Laws}
 use Rattle.script_text.specs.Parts.{line}
 use Rattle.script_text.specs.Counts.{relayed_line}
 use Rattle.script_runs.specs.Reading.{Planned}
 use Rattle.script_runs.specs.Ending.{EndedBy}
 use Rattle.script_runs.specs.declared.ending.LiveRan.{LiveRan}
-use Rattle.script_setup.specs.Plan.{Plan}
-use Rattle.script_setup.specs.declared.setup.Message.{Message}
-use Rattle.segment_report.specs.Texts.{below, ports_at, clients_at}
-use Rattle.segment_report.specs.Noted.{all_noted}
-use Rattle.relay_setup.specs.Gateway.{Plans, text_of, passage_in}
+use Rattle.script_segments.specs.Plan.{Plan}
+use Rattle.script_segments.specs.declared.setup.Message.{Message}
+use Rattle.script_segments.specs.Texts.{below, ports_at, clients_at}
+use Rattle.script_segments.specs.Noted.{all_noted}
+use Rattle.script_segments.specs.Gateway.{Plans, text_of, passage_in}
 use Rattle.bus_relay.specs.Carriages.{Carries, CarriesWhole}
-use Rattle.relay_setup.specs.declared.gateway.Passage.{Passage}
-use Rattle.relay_setup.specs.declared.gateway.Routing.{Routing}
+use Rattle.script_segments.specs.declared.relay.gateway.Passage.{Passage}
+use Rattle.script_segments.specs.declared.relay.gateway.Routing.{Routing}
 use Rattle.bus_relay.specs.declared.text.Carriage.{Carriage}
 
 -- by rising station the ports of the second segment, then what the relay did, then the outcomes of the first and of the second; and

@@ -1,9 +1,9 @@
 -- The facts known of two segments before their threads run.
 use Rattle.std.specs.Prelude.{◌≡◌, Option}
 use Rattle.script_runs.specs.declared.ending.Told.{Told}
-use Rattle.script_setup.specs.Plan.{Plan}
-use Rattle.segment_report.specs.Names.{IsNamed}
-use Rattle.relay_setup.specs.declared.gateway.Passage.{Passage}
+use Rattle.script_segments.specs.Plan.{Plan}
+use Rattle.script_segments.specs.Names.{IsNamed}
+use Rattle.script_segments.specs.declared.relay.gateway.Passage.{Passage}
 use Rattle.bus_relay.specs.Ending.{CameOf}
 use Rattle.bus_relay.specs.declared.known.Known.{Known}
 

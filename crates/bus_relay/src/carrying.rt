@@ -5,8 +5,8 @@ ghost use Rattle.bus_relay.specs.Carriages.{HasCarried, IsBy};
 
 use pgn_ids::Address;
 use port_relay::{Relayed, Route, relay};
-use relay_setup::Passage;
 use script_runs::Lost;
+use script_segments::Passage;
 use segment_threads::{Board, Client, Delivery, Gate, Inbox, read_all};
 use std::alloc::Global;
 use std::marker::Model;

@@ -4,9 +4,8 @@ use crate::carrying::Carrying;
 use crate::known::Known;
 use pgn_ids::Address;
 use port_table::PortId;
-use relay_setup::Passage;
 use script_runs::Lost;
-use segment_report::Names;
+use script_segments::{Names, Passage};
 use segment_threads::{Client, Inbox, Live, Sender, senders_of};
 use std::alloc::Global;
 

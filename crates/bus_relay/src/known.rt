@@ -1,6 +1,5 @@
 //! The facts known of two segments before their threads run.
-use relay_setup::Passage;
-use segment_report::Names;
+use script_segments::{Names, Passage};
 
 /// The names of both segments, and the passage of the relay, if there is one.
 #[derive(Drop)]

@@ -1,8 +1,8 @@
 //! A script of two segments run by threads.
 ghost use Rattle.std.specs.Prelude.{IfSome, IfOk};
-ghost use Rattle.script_setup.specs.Plan.{plan_of};
-ghost use Rattle.segment_report.specs.Names.{IsNamed};
-ghost use Rattle.relay_setup.specs.Gateway.{plans_of, planned};
+ghost use Rattle.script_segments.specs.Plan.{plan_of};
+ghost use Rattle.script_segments.specs.Names.{IsNamed};
+ghost use Rattle.script_segments.specs.Gateway.{plans_of, planned};
 ghost use Rattle.bus_relay.specs.Ending.{CameTo, Ended};
 ghost use Rattle.bus_relay.specs.Known.{IsKnown, CameOfKnown};
 
@@ -10,10 +10,8 @@ use crate::crews::crews_of;
 use crate::known::Known;
 use crate::settling::tell_end;
 use crate::threads::run_shared;
-use relay_setup::{Gateway, Passage};
 use script_runs::{LiveRan, Lost, Told, read_script, tell_refused, tell_run};
-use script_setup::Setup;
-use segment_report::{Names, names_of};
+use script_segments::{Gateway, Names, Passage, Setup, names_of};
 use segment_threads::{Gate, Inbox, Live, SharedSegment};
 use std::alloc::Global;
 use std::io::{BufRead, Write};

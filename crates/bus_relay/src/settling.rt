@@ -2,7 +2,7 @@
 ghost use Rattle.std.specs.Prelude.{◌≡◌, ◌≤◌, ◌++◌, ◌∷◌, [], length, true, IfOk, OnOk};
 ghost use mathlib.Core.List.{IsPrefix};
 ghost use Rattle.live_record.specs.Record.{accepted, given, notes_of, trail};
-ghost use Rattle.script_setup.specs.Reports.{AreClientReports, AreInboxReports};
+ghost use Rattle.script_segments.specs.Reports.{AreClientReports, AreInboxReports};
 ghost use Rattle.bus_relay.specs.Carriages.{HasCarried, place_of, none_left, IsCarried, IsCarriedWhole, Carries, CarriesWhole};
 ghost use Rattle.bus_relay.specs.Known.{CameOfKnown};
 
@@ -11,8 +11,8 @@ use crate::known::Known;
 use crate::text::{Carriage, Settled, text_of};
 use crate::threads::Handed;
 use pgn_ids::Address;
-use relay_setup::Passage;
 use script_runs::{Lost, Told};
+use script_segments::Passage;
 use segment_threads::{Client, ClientReport, Ends, Inbox, Live, Report, finish};
 use std::alloc::{AllocError, Global};
 

@@ -1,18 +1,17 @@
 //! The text that is printed once the threads have ended.
 ghost use Rattle.std.specs.Prelude.{◌≡◌, ◌++◌, true, false, Option, OnOk, IfOk};
 ghost use Rattle.live_record.specs.Record.{trail};
-ghost use Rattle.segment_report.specs.Noted.{all_noted};
-ghost use Rattle.segment_report.specs.Texts.{below, clients_at};
+ghost use Rattle.script_segments.specs.Noted.{all_noted};
+ghost use Rattle.script_segments.specs.Texts.{below, clients_at};
 ghost use Rattle.bus_relay.specs.Carriages.{Carries, CarriesWhole};
 ghost use Rattle.bus_relay.specs.Ending.{Came, end_text};
-ghost use Rattle.relay_setup.specs.declared.gateway.Passage.{Passage};
+ghost use Rattle.script_segments.specs.declared.relay.gateway.Passage.{Passage};
 
 use pgn_ids::Address;
 use port_table::PortId;
 use script_runs::{Lost, Told};
-use script_setup::Message;
+use script_segments::{Message, are_same, has_run_out, print_clients, print_ports};
 use script_text::{print_relayed, print_text};
-use segment_report::{are_same, has_run_out, print_clients, print_ports};
 use segment_threads::Live;
 use std::alloc::Global;
 

@@ -12,7 +12,7 @@ use Rattle.segment_law.specs.Drive.{Driven, driven, end_of, events_in}
 use Rattle.segment_law.specs.declared.end.DriveEnd.{DriveEnd}
 use Rattle.segment_law.specs.declared.end.DriveEnd.TheVariants as end
 use Rattle.segment_law.specs.declared.reply.Reply.{Reply}
-use Rattle.lane_drive.specs.Drives.{IsDriven}
+use Rattle.segment_core.specs.Drives.{IsDriven}
 use Rattle.drive_course.specs.declared.driven.Driven as ran
 use Rattle.script_text.specs.Replies.{event_line, event_lines, drove_line}
 use Rattle.bus_script.specs.Telling.{Telling, log_line, log_at, put_at, without_frames, frames_alone}

@@ -10,7 +10,7 @@ use Rattle.segment_law.specs.Drive.{events_in}
 use Rattle.segment_law.specs.declared.call.Call.{Call}
 use Rattle.segment_law.specs.declared.reply.Reply.{Reply}
 use Rattle.segment_law.specs.declared.reply.Reply.TheVariants.{Done}
-use Rattle.lane_drive.specs.Transmits.{put_by}
+use Rattle.segment_core.specs.Transmits.{put_by}
 use Rattle.exchange_law.proofs.broadcasts.Sweeps.{events-append}
 use Rattle.segment_drain.specs.Chosen.{next_of}
 use Rattle.segment_drain.specs.Drains.{Drain, end_by, makes, turn_by, turn, turns_from, undrained}

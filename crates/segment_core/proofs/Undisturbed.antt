@@ -6,7 +6,7 @@ use Rattle.segment_law.specs.Segment.{Segment, lane_at}
 use Rattle.segment_law.specs.Record.{Record, StandsAt}
 use Rattle.segment_law.specs.Drive.{driven}
 use Rattle.segment_law.specs.Quiet.{quiet, is_at_rest, IsSettled, IsQuiet, IsUndisturbed, IsQuietExchange}
-use Rattle.lane_drive.specs.Drives.{IsDriven}
+use Rattle.segment_core.specs.Drives.{IsDriven}
 use Rattle.segment_core.specs.Undisturbed.{IsQuietDrive}
 use Rattle.drive_course.specs.declared.driven.Driven as ran
 use Rattle.std.specs.Prelude.{IsTrue}

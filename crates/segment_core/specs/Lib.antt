@@ -1,3 +1,5 @@
+pub mod Transmits
+pub mod Drives
 pub mod Runs
 pub mod Undisturbed
 pub mod Promise

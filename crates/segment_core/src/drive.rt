@@ -6,15 +6,15 @@ ghost use Rattle.segment_law.specs.Record.{Record, StandsAt};
 ghost use Rattle.segment_law.specs.Quiet.{quiet, IsQuiet};
 ghost use Rattle.segment_law.specs.Drive.{driven};
 ghost use Rattle.segment_law.specs.declared.end.DriveEnd.TheVariants as end;
-ghost use Rattle.lane_drive.specs.Drives.{IsDriven, IsBegun};
+ghost use Rattle.segment_core.specs.Drives.{IsDriven, IsBegun};
 ghost use Rattle.segment_core.specs.Promise.{KeepsPromise};
 ghost use Rattle.segment_core.specs.Undisturbed.{IsQuietDrive};
 
+use crate::driving::drive;
 use crate::segment::Segment;
 use connection_law::the_headline_holds;
 use drive_course::Driven;
 use exchange_law::messages_are_undisturbed;
-use lane_drive::drive;
 use pgn_ids::Address;
 
 impl Segment {

@@ -7,6 +7,7 @@
 mod apart;
 mod call;
 mod drive;
+mod driving;
 mod image;
 mod next;
 mod passing;

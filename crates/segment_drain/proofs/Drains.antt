@@ -18,7 +18,7 @@ use Rattle.segment_law.specs.declared.refusal.Refusal.{Refusal}
 use Rattle.segment_law.specs.declared.reply.Reply.{Reply}
 use Rattle.segment_law.specs.declared.reply.Reply.TheVariants as reply
 use Rattle.drive_course.specs.Joined.{joined}
-use Rattle.lane_drive.specs.Transmits.{put_by}
+use Rattle.segment_core.specs.Transmits.{put_by}
 use Rattle.record_law.proofs.Tests.{equal_or_not}
 use Rattle.segment_drain.specs.Chosen.{is_hold, or_else, makes_room, waits_until, lowest, next_tick, unblocked, next_of}
 use Rattle.segment_drain.specs.Drains.{Drain, times_of, end_by, makes, IsSame, frame_put, timed_by, goes_on_by, turn_by, turn, turns_from, end_at, last_look, undrained, drained, Shows, IsCourse, Makes, HasNext, Goes, IsDrained, HasBegun}

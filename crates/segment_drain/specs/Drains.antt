@@ -13,7 +13,7 @@ use Rattle.segment_law.specs.declared.call.Call.TheVariants.{Pump, Transmit, Tak
 use Rattle.segment_law.specs.declared.reply.Reply.{Reply}
 use Rattle.segment_law.specs.declared.reply.Reply.TheVariants.{Refused, Done}
 use Rattle.drive_course.specs.Joined.{joined}
-use Rattle.lane_drive.specs.Transmits.{put_by}
+use Rattle.segment_core.specs.Transmits.{put_by}
 use Rattle.segment_drain.specs.Chosen.{next_of, is_hold}
 use Rattle.segment_drain.specs.declared.course.Course.{Course}
 use Rattle.segment_drain.specs.declared.drained.Drained as ran

@@ -3,7 +3,7 @@ use crate::jobs::{Party, Sender, receive_all, send_all, work_bus, work_station};
 use crate::pacing::Pace;
 use pgn_ids::Address;
 use script_runs::Lost;
-use script_setup::Message;
+use script_segments::Message;
 use segment_shared::{Client, Gate, Inbox, Live, NotMade, Submission};
 use std::alloc::{AllocError, Global};
 use std::sync::Wait;

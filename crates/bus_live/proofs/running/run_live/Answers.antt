@@ -1,6 +1,6 @@
 use Rattle.std.proofs.Common.{sym, subst}
 use Rattle.script_runs.proofs.Written.{at_refused, at_run}
-use Rattle.script_setup.specs.Plan.{Plan, plan_of, text_of, HasRoom}
+use Rattle.script_segments.specs.Plan.{Plan, plan_of, text_of, HasRoom}
 use Rattle.bus_live.specs.Ending.{CameTo, planned}
 use Rattle.bus_live.proofs.running.run_live.Goals as goal
 

@@ -1,6 +1,6 @@
 use Rattle.std.proofs.Common.{sym, subst}
 use Rattle.script_runs.proofs.Written.{at_refused, at_run}
-use Rattle.relay_setup.specs.Gateway.{Plans, plans_of, text_of, planned, HasRoom}
+use Rattle.script_segments.specs.Gateway.{Plans, plans_of, text_of, planned, HasRoom}
 use Rattle.bus_relay.specs.Ending.{CameTo}
 use Rattle.bus_relay.proofs.running.run_relay.Goals as goal
 

@@ -1,6 +1,6 @@
 use Rattle.std.proofs.Common.{subst}
 use Rattle.segment_law.specs.Drive.{driven}
-use Rattle.lane_drive.specs.Drives.{IsDriven}
+use Rattle.segment_core.specs.Drives.{IsDriven}
 use Rattle.segment_core.proofs.Undisturbed.{quiet_drive}
 use Rattle.segment_core.proofs.segment.Segment.drive.Goals as goal
 

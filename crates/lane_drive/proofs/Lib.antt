@@ -1,5 +1,0 @@
-pub mod Drives
-pub mod Sweeps
-pub mod Steps
-pub mod Turns
-pub mod Together

@@ -1,2 +1,0 @@
-pub mod Transmits
-pub mod Drives

@@ -1,6 +1,0 @@
-use Rattle.std.proofs.Common.{ap}
-use Rattle.script_setup.specs.Plan.{Plan}
-use Rattle.relay_setup.proofs.gateway.setup_after.Goals as goal
-
-pub returns : goal.returns
-returns c = ap (λ (p : Plan). record p { text = c.args.refused.items }) c.new-next.ensures

@@ -1,9 +1,0 @@
-use Rattle.std.proofs.Common.{◌≡◌, ◌+◌, ◌≤◌, drop}
-use Rattle.relay_setup.specs.Gateway.{count_to}
-use Rattle.relay_setup.proofs.routing.count_to.Given as goal
-
-abbrev pub invariant-loop-message : goal.invariant-loop-message
-invariant-loop-message l = record {
-  counted : l.count + count_to l.station l.pgn (drop l.message-index l.messages) ≡ count_to l.station l.pgn l.messages;
-  few : l.count ≤ l.message-index;
-}

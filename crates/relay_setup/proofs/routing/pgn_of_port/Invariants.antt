@@ -1,7 +1,0 @@
-use Rattle.std.proofs.Common.{◌≡◌, map, drop}
-use Rattle.script_setup.specs.Plan.{port_of}
-use Rattle.relay_setup.specs.Gateway.{pgn_of_port}
-use Rattle.relay_setup.proofs.routing.pgn_of_port.Given as goal
-
-abbrev pub invariant-loop-k : goal.invariant-loop-k
-invariant-loop-k l = pgn_of_port (map port_of (drop l.k l.inboxes)) (drop l.k l.calls.items) l.port ≡ pgn_of_port (map port_of l.inboxes) l.calls.items l.port

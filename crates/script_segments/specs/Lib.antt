@@ -1,0 +1,9 @@
+pub mod Plan
+pub mod LiveView
+pub mod Reports
+pub mod Gateway
+pub mod Texts
+pub mod Noted
+pub mod Known
+pub mod Names
+pub mod Ending

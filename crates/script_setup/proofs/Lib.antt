@@ -1,3 +1,0 @@
-pub mod TextsGrow
-pub mod Growing
-pub mod Reports

@@ -1,3 +1,0 @@
-pub mod Plan
-pub mod LiveView
-pub mod Reports

@@ -1,8 +1,0 @@
-use Rattle.segment_report.proofs.Belows.{none_put, more_put}
-use Rattle.segment_report.proofs.text.print_deliveries.Goals as goal
-
-pub loop-from-init : goal.loop-from-init
-loop-from-init c = none_put _ _
-
-pub loop-from-preserved : goal.loop-from-preserved
-loop-from-preserved c = more_put _ _ _ _ _ c.loop-from.invariant c.in_ok-print_sender.ensures

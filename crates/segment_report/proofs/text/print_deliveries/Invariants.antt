@@ -1,6 +1,0 @@
-use Rattle.std.proofs.Common.{◌≡◌, ◌++◌}
-use Rattle.segment_report.specs.Texts.{below, given_lines}
-use Rattle.segment_report.proofs.text.print_deliveries.Given as goal
-
-abbrev pub invariant-loop-from : goal.invariant-loop-from
-invariant-loop-from l = l.out.items ≡ l.fn.out.items ++ below l.from (λ from. below 256 (λ to. given_lines l.fn.port from to l.given))

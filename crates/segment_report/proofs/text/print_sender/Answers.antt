@@ -1,8 +1,0 @@
-use Rattle.segment_report.proofs.Belows.{none_put, more_put}
-use Rattle.segment_report.proofs.text.print_sender.Goals as goal
-
-pub loop-to-init : goal.loop-to-init
-loop-to-init c = none_put _ _
-
-pub loop-to-preserved : goal.loop-to-preserved
-loop-to-preserved c = more_put _ _ _ _ _ c.loop-to.invariant c.in_ok-print_lane.ensures

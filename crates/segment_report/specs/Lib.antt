@@ -1,5 +1,0 @@
-pub mod Texts
-pub mod Noted
-pub mod Known
-pub mod Names
-pub mod Ending
