@@ -16,4 +16,4 @@ mod silence;
 mod way;
 
 pub use decoder::Decoder;
-pub use session::{CONNECTION_PATIENCE, Fate, Session};
+pub use session::{CONNECTION_PATIENCE, Fate, Session, a_listener_waits_longest};

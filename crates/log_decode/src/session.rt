@@ -1,9 +1,11 @@
 //! A message under way, as a listener sees it.
 ghost use Rattle.pgn_ids.specs.Pgn.{clean};
-ghost use Rattle.std.specs.Prelude.{◌≡◌, ◌==◌, length, true, OnOk, IfOk, Some};
+ghost use Rattle.std.specs.Prelude.{◌≡◌, ◌==◌, ◌*◌, ◌<◌, length, true, OnOk, IfOk, Some};
 ghost use Rattle.seg_cut.specs.Join.{wants};
 ghost use Rattle.log_decode.specs.Session.{first_window, opened, accepted, renewed, packet_heard, is_within, sequence_heard, cm_heard, acknowledged, heard, abort_heard, is_silent, patience, due, soonest, given_of, told_of, is_again};
 ghost use Rattle.log_decode.specs.declared.session.Fate.TheVariants.{GoesOn, Lost};
+ghost use Rattle.log_decode.specs.declared.session.TheConstants.{CONNECTION_PATIENCE};
+ghost use Rattle.tick_timers.specs.declared.durations.TheConstants.{T2, T3, T4};
 
 use log_fields::TICK;
 use log_reports::{Bytes, Cause, Key, Told, Transport};
@@ -46,6 +48,12 @@ pub struct Session {
 /// How many microseconds a frame of a connection is waited for: more than its ends wait, so that the abort of one that waited in vain is
 /// seen before.
 pub const CONNECTION_PATIENCE: u64 = 1_500_000;
+
+/// A law: a frame of a connection is waited for 1,500 ms, which is longer than an end waits by T2, T3 or T4 (SAE J1939-21).
+pub fn a_listener_waits_longest()
+    ensures patience { CONNECTION_PATIENCE ≡ 1500000 }
+    ensures longest { (T2 * 1000 < CONNECTION_PATIENCE) × (T3 * 1000 < CONNECTION_PATIENCE) × (T4 * 1000 < CONNECTION_PATIENCE) }
+{}
 
 /// The window of a message that has no packet yet.
 fn first_window(transport: Transport) -> Option<u8>
